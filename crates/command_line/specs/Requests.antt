@@ -1,11 +1,12 @@
 -- What holds of a request.
 use Rattle.std.specs.Prelude.{◌≤◌, ℕ, List, length, IfSome}
 use Rattle.command_line.specs.declared.words.Request.{Request}
-use Rattle.command_line.specs.declared.words.Request.TheVariants.{OfRounds, OnFiles, Solve, Why as Asking, Limit as Limiting}
+use Rattle.command_line.specs.declared.words.Request.TheVariants.{OfRounds, OnFiles, Solve, Why as Asking, Limit as Limiting, Margin as Lengthening}
 use Rattle.command_line.specs.declared.words.Effort.{Effort}
 use Rattle.command_line.specs.declared.words.Search.{Search}
 use Rattle.command_line.specs.declared.words.Why.{Why}
 use Rattle.command_line.specs.declared.words.Limit.{Limit}
+use Rattle.command_line.specs.declared.words.Margin.{Margin}
 use Rattle.command_line.specs.declared.words.Task.{Task}
 use Rattle.command_line.specs.declared.words.Task.TheVariants.{Draw}
 use Rattle.command_line.specs.declared.words.RoundsTask.{RoundsTask}
@@ -56,10 +57,20 @@ pub record IsSoundLimit (limit : Limit) : Type 0 where
   pub reduced : IfSome limit.reduced (λ file. IsOtherFile file.now limit.instance.now)
   pub both : IfSome limit.reduced (λ file. IfSome limit.certificate (λ other. IsOtherFile file.now other.now))
 
+-- the same of a search for longer runs, which all end by a tick that can be said
+pub record IsSoundMargin (margin : Margin) : Type 0 where
+  pub effort : IsSoundEffort margin.effort
+  pub some : 1 ≤ margin.within
+  pub few : margin.within ≤ most_ticks
+  pub certificate : IfSome margin.certificate (λ file. IsOtherFile file.now margin.instance.now)
+  pub reduced : IfSome margin.reduced (λ file. IsOtherFile file.now margin.instance.now)
+  pub both : IfSome margin.reduced (λ file. IfSome margin.certificate (λ other. IsOtherFile file.now other.now))
+
 abbrev pub IsSound : Request → Type 0
 IsSound (OnFiles instance plan task) = IsSoundTask task
 IsSound (OfRounds instance plan task) = IsSoundRounds task
 IsSound (Solve search) = IsSoundSearch search
 IsSound (Asking why) = IsSoundWhy why
 IsSound (Limiting limit) = IsSoundLimit limit
+IsSound (Lengthening margin) = IsSoundMargin margin
 IsSound _ = Unit {0}

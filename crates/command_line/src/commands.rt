@@ -6,18 +6,36 @@ use crate::words::VERSION;
 use clap::{Arg, ArgAction, Command};
 use std::alloc::{AllocError, Global};
 
+/// An option that is used or not.
+fn flag<'a>(arg: Arg<'a>, name: &'a str) -> Arg<'a> {
+    arg.long(name).action(ArgAction::SetTrue)
+}
+
+/// An option with a value, which help calls this.
+fn option<'a>(arg: Arg<'a>, name: &'a str, value: &'a str) -> Arg<'a> {
+    arg.long(name).value_name(value)
+}
+
+/// A word, and more behind it.
+fn words<'a>(arg: Arg<'a>) -> Arg<'a> {
+    arg.required(true).num_args(1..)
+}
+
+/// The same, or nothing.
+fn maybe_words<'a>(arg: Arg<'a>) -> Arg<'a> {
+    arg.num_args(0..)
+}
+
 /// An option or a word, where its value stands.
 fn placed<'a>(arg: Arg<'a>, row: Row) -> Result<Arg<'a>, AllocError> {
     match row.place {
-        Place::Flag => Ok(arg.long(row.name).action(ArgAction::SetTrue)),
-        Place::Option(value) => Ok(arg.long(row.name).value_name(value)),
-        Place::InsteadOf(value, word) => {
-            arg.long(row.name).value_name(value).conflicts_with(word)
-        }
+        Place::Flag => Ok(flag(arg, row.name)),
+        Place::Option(value) => Ok(option(arg, row.name, value)),
+        Place::InsteadOf(value, word) => option(arg, row.name, value).conflicts_with(word),
         Place::Word => Ok(arg.required(true)),
         Place::MaybeWord => Ok(arg),
-        Place::Words => Ok(arg.required(true).num_args(1..)),
-        Place::MaybeWords => Ok(arg.num_args(0..)),
+        Place::Words => Ok(words(arg)),
+        Place::MaybeWords => Ok(maybe_words(arg)),
     }
 }
 

@@ -17,6 +17,27 @@ pub struct Given<'m, 'a> {
     pub matches: &'m ArgMatches<'a>,
 }
 
+/// The forms of an answer.
+const FORMS: &[AnswerForm] = &[AnswerForm::Text, AnswerForm::Json];
+
+/// What a form is called.
+fn name_of_form(form: AnswerForm) -> &'static str {
+    match form {
+        AnswerForm::Text => "text",
+        AnswerForm::Json => "json",
+    }
+}
+
+/// The form of a name.
+fn form_named(name: &str) -> Option<AnswerForm> {
+    for form in FORMS {
+        if name_of_form(*form) == name {
+            return Some(*form);
+        }
+    }
+    None
+}
+
 /// Whether a second word names the same file, where there is one.
 fn is_named_by(alloc: Global, file: &str, other: Option<&str>) -> Result<bool, AllocError>
     ensures { IfOk result (λ same. same ≡ false → IfSome other.entry (λ name. IsOtherFile file.now name.now)) }
@@ -47,7 +68,7 @@ impl<'m, 'a> Given<'m, 'a> {
     }
 
     /// The texts of a row, where there are any.
-    pub fn texts(&self, row: Row) -> Option<&[&'a str]> {
+    pub fn texts(self, row: Row) -> Option<&'m [&'a str]> {
         self.matches.get_strs(row.name)
     }
 
@@ -69,31 +90,39 @@ impl<'m, 'a> Given<'m, 'a> {
     pub fn number_if_any(&self, row: Row) -> Result<Option<u64>, Misuse<'a>>
         ensures { IfOk result (λ number. IfSome number (IsIn row.takes)) }
     {
-        match self.text_if_any(row) {
-            Some(_) => Ok(Some(self.number(row)?)),
-            None => Ok(None),
+        if self.text_if_any(row).is_none() {
+            return Ok(None);
         }
+        let number = self.number(row)?;
+        Ok(Some(number))
     }
 
-    /// The same, where its range is one of 32 bits.
-    pub fn u32_if_any(&self, row: Row) -> Result<Option<u32>, Misuse<'a>>
-        ensures { IfOk result (λ number. IfSome number (IsIn row.takes)) }
+    /// The number of a row whose range is one of 32 bits.
+    pub fn u32(&self, row: Row) -> Result<u32, Misuse<'a>>
+        ensures { IfOk result (IsIn row.takes) }
     {
-        let Some(number) = self.number_if_any(row)? else {
-            return Ok(None);
-        };
-        match u32::try_from(number) {
-            Ok(number) => Ok(Some(number)),
+        match u32::try_from(self.number(row)?) {
+            Ok(number) => Ok(number),
             Err(_) => Err(Misuse::Missing),
         }
     }
 
+    /// The same of a row that need not be given.
+    pub fn u32_if_any(&self, row: Row) -> Result<Option<u32>, Misuse<'a>>
+        ensures { IfOk result (λ number. IfSome number (IsIn row.takes)) }
+    {
+        if self.text_if_any(row).is_none() {
+            return Ok(None);
+        }
+        let number = self.u32(row)?;
+        Ok(Some(number))
+    }
+
     /// The form that a row names.
     pub fn form(&self, row: Row) -> Result<AnswerForm, Misuse<'a>> {
-        match self.text(row)? {
-            "text" => Ok(AnswerForm::Text),
-            "json" => Ok(AnswerForm::Json),
-            _ => Err(Misuse::Missing),
+        match form_named(self.text(row)?) {
+            Some(form) => Ok(form),
+            None => Err(Misuse::Missing),
         }
     }
 

@@ -19,5 +19,6 @@ pub use refusal::refuse;
 pub use rows::Row;
 pub use table::Asks;
 pub use words::{
-    AnswerForm, Effort, Explained, Limit, Request, RoundsTask, Search, Task, VERSION, Why, all,
+    AnswerForm, Effort, Explained, Limit, Margin, Request, RoundsTask, Search, Task, VERSION, Why,
+    all,
 };

@@ -64,6 +64,14 @@ pub const PROCESSES: Row = Row {
     help: "The name of a process, of which each is named once",
 };
 
+/// The processes that are to run longer.
+pub const RUNNERS: Row = Row {
+    name: "PROCESS",
+    place: Place::MaybeWords,
+    takes: Takes::Text,
+    help: "The name of a process that is to run longer, of which each is named once; where none is named, all are",
+};
+
 /// How many ticks a period has.
 pub const PERIOD_TICKS: Row = Row {
     name: "PERIOD",
@@ -301,6 +309,50 @@ pub const SEARCHED: Row = Row {
         over_other: OVER_OTHER,
     }),
     help: "Also writes the instance that the certificate is for to this file, in TOML: of `limit D` the one in which the deadlines of these processes are D, or earlier. A file that is there is emptied first; INSTANCE itself is refused, and the certificate's file",
+};
+
+/// Whether it is counted in thousandths by how much processes run longer.
+pub const PERMILLE: Row = Row {
+    name: "permille",
+    place: Place::Flag,
+    takes: Takes::Nothing,
+    help: "Counts in thousandths of each worst-case execution time, rounded up to whole ticks, in place of ticks",
+};
+
+/// By which tick all has to end.
+pub const WITHIN: Row = Row {
+    name: "within",
+    place: Place::Option("D"),
+    takes: Takes::Number(Range {
+        least: 1,
+        most: MOST_TICKS as u64,
+        default: Some("1000000"),
+    }),
+    help: "All has to end by this tick too, longer runs included: the horizon is the lesser of itself and D, 1 to 1000000",
+};
+
+/// The file of the certificate that there is no plan where processes run longer by one more.
+pub const CERT_OF_MORE: Row = Row {
+    name: "cert",
+    place: Place::Option("FILE"),
+    takes: Takes::File(Written {
+        sink: Sink::Certificate,
+        over_instance: OVER_INSTANCE,
+        over_other: OVER_OTHER,
+    }),
+    help: "Also writes the certificate that there is no plan with one more to this file, where a search showed that, before the answer is printed: `ttplan check` accepts it for the file of `--reduced`. A file that is there is emptied first; INSTANCE itself is refused",
+};
+
+/// The file of the instance in which processes run longer by one more.
+pub const WITH_MORE: Row = Row {
+    name: "reduced",
+    place: Place::Option("FILE"),
+    takes: Takes::File(Written {
+        sink: Sink::Reduced,
+        over_instance: OVER_OTHER,
+        over_other: OVER_OTHER,
+    }),
+    help: "Also writes the instance that the certificate is for to this file, in TOML: the one in which these processes run longer by one more, and all has to end by D. A file that is there is emptied first; INSTANCE itself is refused, and the certificate's file",
 };
 
 /// In which form an answer is written.

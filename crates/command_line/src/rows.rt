@@ -70,10 +70,13 @@ impl Range {
     pub fn read(self, word: &str) -> Option<u64>
         ensures { IfSome result (IsIn (Takes.Number self)) }
     {
-        match word.parse::<u64>() {
-            Ok(number) if self.least <= number && number <= self.most => Some(number),
-            _ => None,
+        let Ok(number) = word.parse::<u64>() else {
+            return None;
+        };
+        if number < self.least || self.most < number {
+            return None;
         }
+        Some(number)
     }
 }
 

@@ -1,11 +1,11 @@
 //! Which commands are there, with which words and options, and what does the help say of each?
 
 use crate::options::{
-    ANY_PLAN, BUDGET, CERT, CERT_OF_LAST, CERT_OF_NONE, CERTIFICATE, EXPLAINED_CERT,
+    ANY_PLAN, BUDGET, CERT, CERT_OF_LAST, CERT_OF_MORE, CERT_OF_NONE, CERTIFICATE, EXPLAINED_CERT,
     EXPLAINED_PLAN, FORMAT, GAP, INSTANCE, KEEP, LATE, LOSSES, NEW_INSTANCE, NEW_PLAN, NODE,
-    OLD_INSTANCE, OLD_PLAN, PERIOD_TICKS, PLAN, PROCESSES, PROGRESS, REDUCED, ROUNDS,
-    SCHEDULE_FORMAT, SEARCH_BUDGET, SEARCHED, SEARCHES_PROGRESS, SECONDS, START, TABLE, UNTIL,
-    USED, WIDTH, WORKERS,
+    OLD_INSTANCE, OLD_PLAN, PERIOD_TICKS, PERMILLE, PLAN, PROCESSES, PROGRESS, REDUCED, ROUNDS,
+    RUNNERS, SCHEDULE_FORMAT, SEARCH_BUDGET, SEARCHED, SEARCHES_PROGRESS, SECONDS, START, TABLE,
+    UNTIL, USED, WIDTH, WITH_MORE, WITHIN, WORKERS,
 };
 use crate::rows::Row;
 
@@ -15,6 +15,7 @@ pub enum Asks {
     Solve,
     Why,
     Limit,
+    Margin,
     Verify,
     Check,
     Judge,
@@ -86,6 +87,28 @@ const LIMIT: CommandRow = CommandRow {
     ],
     after: Some(
         "It prints one of these, and ends with the status beside it:\n   0  `limit D`, and behind it the text of a plan: the last of these processes ends at D in it, and before D in no valid plan; of the plans that do it none has a smaller delay\n  10  `none`: no plan is valid\n  11  `limit D` and a plan that does it, where the search for the least delay was stopped; `between LOW HIGH` and a plan in which the last of them ends at HIGH, where a search before that was; or `between LOW none`, where no plan is known. It ends before LOW in no valid plan\n\nFirst any plan is looked for, then one that ends these processes half way between the ticks that are known, and so on. The last search is for the least delay. Each has N subtrees. Once the seconds have passed the search at hand is stopped, and so is each further one as it begins.",
+    ),
+};
+
+/// Tells how much longer processes may run.
+const MARGIN: CommandRow = CommandRow {
+    name: "margin",
+    about: "Prints by how much longer all these processes may run at once, and a plan that stays valid then",
+    rows: &[
+        INSTANCE,
+        RUNNERS,
+        PERMILLE,
+        WITHIN,
+        WORKERS,
+        SEARCH_BUDGET,
+        SECONDS,
+        WITH_MORE,
+        CERT_OF_MORE,
+        FORMAT,
+        SEARCHES_PROGRESS,
+    ],
+    after: Some(
+        "It prints one of these, and ends with the status beside it:\n   0  `margin X`, and behind it the text of a plan: it stays valid where each of these processes takes X ticks more than its worst-case execution time, all at once, and with X + 1 no plan is valid; `margin X window PROCESS`, where that is so because this process has no room for X + 1 between its release and the least of its deadline, the horizon and D\n  10  `none`: no plan is valid, or none within D\n  11  `between LOW HIGH`, and behind it the text of a plan that stays valid with LOW and not with LOW + 1, or `unknown HIGH`, where no plan is known: a search was stopped; with more than HIGH no plan is valid\n\nFirst any plan is looked for; what it has is the least slack of these processes. Then one is looked for that has half as much more as windows leave, and so on. The last search has to show that there is no plan with X + 1. Each has N subtrees. Once the seconds have passed the search at hand is stopped, and so is each further one as it begins.",
     ),
 };
 
@@ -184,6 +207,7 @@ pub const COMMANDS: &[Asks] = &[
     Asks::Solve,
     Asks::Why,
     Asks::Limit,
+    Asks::Margin,
     Asks::Verify,
     Asks::Check,
     Asks::Judge,
@@ -202,6 +226,7 @@ pub fn row_of(asks: Asks) -> CommandRow {
         Asks::Solve => SOLVE,
         Asks::Why => WHY,
         Asks::Limit => LIMIT,
+        Asks::Margin => MARGIN,
         Asks::Verify => VERIFY,
         Asks::Check => CHECK,
         Asks::Judge => JUDGE,

@@ -109,6 +109,24 @@ pub struct Limit<'a> {
     pub form: AnswerForm,
 }
 
+/// By how much longer processes of an instance may run.
+#[derive(Debug, Drop)]
+pub struct Margin<'a> {
+    pub instance: &'a str,
+    /// The names of these processes, in the order of the words; all where there are none.
+    pub processes: Vec<&'a str>,
+    /// Whether it is counted in thousandths of execution times, and not in ticks.
+    pub thousandths: bool,
+    /// By which tick all has to end, 1 to 1,000,000.
+    pub within: u32,
+    /// Where the certificate is written.
+    pub certificate: Option<&'a str>,
+    /// Where the instance that the certificate is for is written.
+    pub reduced: Option<&'a str>,
+    pub effort: Effort,
+    pub form: AnswerForm,
+}
+
 /// A command, with the files that it names.
 #[derive(Debug, Drop)]
 pub enum Request<'a> {
@@ -130,6 +148,8 @@ pub enum Request<'a> {
     Why(Why<'a>),
     /// Tell how early processes of the instance of a file can end.
     Limit(Limit<'a>),
+    /// Tell by how much longer processes of the instance of a file may run.
+    Margin(Margin<'a>),
     /// Check the certificate of one file for the instance of another.
     Check {
         instance: &'a str,

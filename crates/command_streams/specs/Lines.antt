@@ -35,7 +35,7 @@ use Rattle.command_streams.specs.declared.ending.Sink.TheVariants as sink
 use Rattle.command_streams.specs.declared.ending.SearchFault.{SearchFault}
 use Rattle.command_streams.specs.declared.ending.SearchFault.TheVariants as search
 use Rattle.command_streams.specs.declared.ending.Fault.{Fault}
-use Rattle.command_streams.specs.declared.ending.Fault.TheVariants.{NoMark, LossForm, InstanceText, Memory, PlanText, Plan, StatedDelay, CertificateText, Certificate, TooFewNodes, WrongLoss, NoSuchProcess, TooManySlots, LongSchedule, NoSuchNode, ShortPeriod, ShortTables, LongTables, Search, TooLong, Unread, Unwritten}
+use Rattle.command_streams.specs.declared.ending.Fault.TheVariants.{NoMark, LossForm, InstanceText, Memory, PlanText, Plan, StatedDelay, CertificateText, Certificate, TooFewNodes, WrongLoss, NoSuchProcess, NoSuchRunner, TooManySlots, LongSchedule, NoSuchNode, ShortPeriod, ShortTables, LongTables, Search, TooLong, Unread, Unwritten}
 use Rattle.command_streams.specs.declared.ending.End.{End}
 use Rattle.command_streams.specs.declared.ending.End.TheVariants.{Done, Different, Absent, Stopped, Refused, RefusedOf}
 use Rattle.command_streams.specs.declared.ending.Release.{Release}
@@ -207,6 +207,7 @@ fault_line (ShortPeriod rounds) = codes "period rounds " ++ rounds_words rounds
 fault_line (ShortTables rounds) = codes "tables rounds " ++ rounds_words rounds
 fault_line (LongTables count) = codes "tables slots " ++ decimal count
 fault_line (NoSuchProcess k) = codes "limit name " ++ decimal k
+fault_line (NoSuchRunner k) = codes "margin name " ++ decimal k
 fault_line (WrongLoss k) = codes "replay N2 " ++ decimal k
 fault_line (Search fault) = search_line fault
 fault_line (Unread source) = codes "read " ++ source_word source

@@ -79,8 +79,10 @@ pub enum Fault {
     /// When the loss word of this index stands for a loss that is outside the cycle, or at a node that isn't
     /// there or is the sender, and no word before it does.
     WrongLoss(usize),
-    /// When the word of this index names no process, or one that a word before it names.
+    /// When the word of this index names no process that could end early, or one that a word before it names.
     NoSuchProcess(usize),
+    /// The same of a process that is to run longer.
+    NoSuchRunner(usize),
     /// When a picture would show this many slots, more than it may.
     TooManySlots(u64),
     /// When what is loaded, or a trace, would tell this many slots, more than it may.
@@ -167,6 +169,7 @@ pub fn status_of_fault(fault: &Fault) -> u8
         Fault::TooFewNodes => 5,
         Fault::WrongLoss(_) => 5,
         Fault::NoSuchProcess(_) => 5,
+        Fault::NoSuchRunner(_) => 5,
         Fault::TooManySlots(_) => 5,
         Fault::LongSchedule(_) => 5,
         Fault::NoSuchNode => 5,

@@ -343,6 +343,7 @@ impl fmt::Display for Fault {
             Fault::TooFewNodes => write!(f, "replay N1"),
             Fault::WrongLoss(k) => write!(f, "replay N2 {k}"),
             Fault::NoSuchProcess(k) => write!(f, "limit name {k}"),
+            Fault::NoSuchRunner(k) => write!(f, "margin name {k}"),
             Fault::TooManySlots(count) => write!(f, "draw slots {count}"),
             Fault::LongSchedule(count) => write!(f, "schedule slots {count}"),
             Fault::NoSuchNode => write!(f, "schedule node"),

@@ -1,7 +1,7 @@
 -- Which files a search is to write.
 use Rattle.std.specs.Prelude.{◌≡◌, ◌++◌, IfSome, codes, false}
 use Rattle.command_line.specs.declared.words.Request.{Request}
-use Rattle.command_line.specs.declared.words.Request.TheVariants.{Solve, Limit}
+use Rattle.command_line.specs.declared.words.Request.TheVariants.{Solve, Limit, Margin}
 use Rattle.command_line.specs.Names.{is_rooted}
 
 -- the certificate isn't written to the instance's file, of which the name is given again with `./` before it
@@ -10,4 +10,6 @@ SparesInstance (Solve search) =
     IfSome search.certificate (λ file. is_rooted search.instance.now ≡ false → file.now ≡ codes "./" ++ search.instance.now → ⊥)
 SparesInstance (Limit limit) =
     IfSome limit.certificate (λ file. is_rooted limit.instance.now ≡ false → file.now ≡ codes "./" ++ limit.instance.now → ⊥)
+SparesInstance (Margin margin) =
+    IfSome margin.certificate (λ file. is_rooted margin.instance.now ≡ false → file.now ≡ codes "./" ++ margin.instance.now → ⊥)
 SparesInstance _ = Unit {0}

@@ -53,7 +53,7 @@ pub use propagations::{
 };
 pub use questions::{
     absence_is_told_of_no_plan, any_plan_is_valid, none_ends_before_the_least_end,
-    none_is_less_late, unknown_lateness_is_a_tick_at_least,
+    none_has_more_than_the_margin, none_is_less_late, unknown_lateness_is_a_tick_at_least,
 };
 pub use searches::{
     answer_is_no_later_than_the_start, found_plan_is_settled, leaf_of_a_find_is_below_the_goal,

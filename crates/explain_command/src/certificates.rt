@@ -8,9 +8,11 @@ ghost use Rattle.tree_check.specs.declared.fault.CertFault.TheVariants as cert;
 ghost use Rattle.explain_command.specs.Certificates.{IsUnreadable, TellsCertificateBytes, TellsProved, TellsUnproved, TellsUnwritten};
 
 use crate::telling::put_line;
+use crate::values::CertificateValue;
 use certificate::{CertTextError, LineFault};
 use certificate_reasons::{cert_reason, proof_reason, text_reason};
 use command_streams::Fault;
+use json_answers::Reasons;
 use plan_commands::read_bound;
 use sentences::put;
 use std::alloc::{AllocError, Global};
@@ -25,11 +27,13 @@ fn told_unwritten(
     bytes: &[u8],
     line: u64,
     wrong: LineFault,
+    reasons: &mut Reasons,
 ) -> Result<String, MemoryFault>
     requires { IsCertificateFault instance.now bytes.now (fault.CertificateText (text.At line wrong)) }
     ensures { IfOk result (λ text. TellsUnwritten instance.now bytes.now (string_bytes text)) }
 {
     let reason = text_reason(bytes, line, wrong);
+    reasons.push(alloc, "reason", &CertificateValue::Unwritten(&reason))?;
     let mut text = String::new(alloc);
     let error = CertTextError::At { line, fault: wrong };
     put_line(&mut text, &Fault::CertificateText(error))?;
@@ -44,12 +48,14 @@ fn told_unproved(
     instance: &Instance,
     bytes: &[u8],
     wrong: CertFault,
+    reasons: &mut Reasons,
 ) -> Result<String, MemoryFault>
     requires fault { IsCertificateFault instance.now bytes.now (fault.Certificate wrong) }
     requires told { wrong ≢ cert.OutOfMemory }
     ensures { IfOk result (λ text. TellsUnproved instance.now bytes.now (string_bytes text)) }
 {
     let reason = cert_reason(alloc, instance, bytes, wrong)?;
+    reasons.push(alloc, "reason", &CertificateValue::Unproved(&reason))?;
     let mut text = String::new(alloc);
     put_line(&mut text, &Fault::Certificate(wrong))?;
     put(alloc, &mut text, &reason)?;
@@ -69,11 +75,13 @@ fn told_proved(
     instance: &Instance,
     bytes: &[u8],
     low: u32,
+    reasons: &mut Reasons,
 ) -> Result<String, MemoryFault>
     requires { HasBound instance.now bytes.now low }
     ensures { IfOk result (λ text. TellsProved instance.now bytes.now (string_bytes text)) }
 {
     let reason = proof_reason(alloc, instance, bytes)?;
+    reasons.push(alloc, "proof", &CertificateValue::Proved(&reason))?;
     let mut text = String::new(alloc);
     put_bound_line(&mut text, low)?;
     put(alloc, &mut text, &reason)?;
@@ -86,6 +94,7 @@ fn told_refused(
     instance: &Instance,
     bytes: &[u8],
     wrong: Fault,
+    reasons: &mut Reasons,
 ) -> Result<String, Fault>
     requires { IsCertificateFault instance.now bytes.now wrong }
     ensures told { IfOk result (λ text. TellsCertificateBytes instance.now bytes.now (string_bytes text)) }
@@ -95,9 +104,9 @@ fn told_refused(
         Fault::CertificateText(CertTextError::OutOfMemory) => Err(Fault::Memory),
         Fault::Certificate(CertFault::OutOfMemory) => Err(Fault::Memory),
         Fault::CertificateText(CertTextError::At { line, fault }) => {
-            Ok(told_unwritten(alloc, instance, bytes, line, fault)?)
+            Ok(told_unwritten(alloc, instance, bytes, line, fault, reasons)?)
         }
-        Fault::Certificate(wrong) => Ok(told_unproved(alloc, instance, bytes, wrong)?),
+        Fault::Certificate(wrong) => Ok(told_unproved(alloc, instance, bytes, wrong, reasons)?),
         other => Err(other),
     }
 }
@@ -108,13 +117,14 @@ pub fn told_certificate(
     alloc: Global,
     instance: &Instance,
     bytes: &[u8],
+    reasons: &mut Reasons,
 ) -> Result<String, Fault>
     ensures told { IfOk result (λ text. TellsCertificateBytes instance.now bytes.now (string_bytes text)) }
     ensures err { IfErr result (IsUnreadable bytes.now) }
 {
     let mut reader = bytes;
     match read_bound(rt, alloc, instance, &mut reader) {
-        Ok(low) => Ok(told_proved(alloc, instance, bytes, low)?),
-        Err(wrong) => told_refused(alloc, instance, bytes, wrong),
+        Ok(low) => Ok(told_proved(alloc, instance, bytes, low, reasons)?),
+        Err(wrong) => told_refused(alloc, instance, bytes, wrong, reasons),
     }
 }

@@ -42,16 +42,6 @@ fn stated_of_reader<I: Read>(
     stated_of_bytes(alloc, bytes.as_slice(), reasons)
 }
 
-/// The same where no reason is asked for.
-fn stated_alone<I: Read>(alloc: Global, instance: &mut I) -> Result<Stated, Fault>
-    ensures ok { IfSome (I.remaining instance.old) (λ bytes. IfOk result (IsStatedOf bytes)) }
-    ensures err { IfSome (I.remaining instance.old) (λ bytes. IfErr result (IsUntold bytes)) }
-    ensures most { TakesAtMost (INSTANCE_LIMIT + 1) (I.remaining instance.old) (I.remaining instance.new) }
-{
-    let mut unasked = Reasons::unasked();
-    stated_of_reader(alloc, instance, &mut unasked)
-}
-
 /// What is told of an instance that keeps its rules.
 fn described(alloc: Global, instance: &Instance, reasons: &mut Reasons) -> Result<String, Fault>
     ensures ok { IfOk result (λ text. TellsSizes instance.now (string_bytes text)) }
@@ -196,6 +186,7 @@ fn told_of_certificate<C: Read>(
     alloc: Global,
     instance: &Instance,
     certificate: &mut C,
+    reasons: &mut Reasons,
 ) -> Result<String, Fault>
     ensures ok { IfSome (C.remaining certificate.old) (λ c. IfOk result (λ text. TellsCertificateBytes instance.now c (string_bytes text))) }
     ensures err { IfSome (C.remaining certificate.old) (λ c. IfErr result (IsUnreadable c)) }
@@ -203,7 +194,7 @@ fn told_of_certificate<C: Read>(
     ensures certificate { TakesAtMost (CERTIFICATE_LIMIT + 1) (C.remaining certificate.old) (C.remaining certificate.new) }
 {
     let bytes = read_all(alloc, certificate, CERTIFICATE_LIMIT, Source::Certificate)?;
-    told_certificate(rt, alloc, instance, bytes.as_slice())
+    told_certificate(rt, alloc, instance, bytes.as_slice(), reasons)
 }
 
 /// What is told of an instance and a certificate.
@@ -212,6 +203,7 @@ fn certificate_told<I: Read, C: Read>(
     alloc: Global,
     instance: &mut I,
     certificate: &mut C,
+    reasons: &mut Reasons,
 ) -> Result<String, Fault>
     ensures ok { IfSome (I.remaining instance.old) (λ i. IfSome (C.remaining certificate.old) (λ c.
         IfOk result (λ text. TellsBoth TellsCertificateBytes i c (string_bytes text)))) }
@@ -221,10 +213,10 @@ fn certificate_told<I: Read, C: Read>(
     ensures order { IfErr result (λ fault. IsOfInstance fault → Keeps (C.remaining certificate.old) (C.remaining certificate.new)) }
     ensures unread { IfSome (I.remaining instance.old) (λ i. ¬ StatesSome i → Keeps (C.remaining certificate.old) (C.remaining certificate.new)) }
 {
-    match stated_alone(alloc, instance)? {
+    match stated_of_reader(alloc, instance, reasons)? {
         Stated::Refused(text) => Ok(text),
         Stated::Instance(instance) => {
-            let told = told_of_certificate(rt, alloc, &instance, certificate);
+            let told = told_of_certificate(rt, alloc, &instance, certificate, reasons);
             drop(instance);
             told
         }
@@ -240,6 +232,7 @@ pub fn explain_certificate<I: Read, C: Read, W: Write>(
     alloc: Global,
     instance: &mut I,
     certificate: &mut C,
+    reasons: &mut Reasons,
     out: &mut W,
 ) -> End
     ensures answer { IfSome (I.remaining instance.old) (λ i. IfSome (C.remaining certificate.old) (λ c.
@@ -249,7 +242,7 @@ pub fn explain_certificate<I: Read, C: Read, W: Write>(
     ensures order { IfRefused result (λ fault. IsOfInstance fault → Keeps (C.remaining certificate.old) (C.remaining certificate.new)) }
     ensures unread { IfSome (I.remaining instance.old) (λ i. ¬ StatesSome i → Keeps (C.remaining certificate.old) (C.remaining certificate.new)) }
 {
-    match certificate_told(rt, alloc, instance, certificate) {
+    match certificate_told(rt, alloc, instance, certificate, reasons) {
         Ok(text) => end_with(out, text.as_bytes()),
         Err(fault) => End::Refused(fault),
     }

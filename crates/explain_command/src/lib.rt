@@ -4,8 +4,12 @@
 mod certificates;
 mod explaining;
 mod instances;
+mod members;
 mod mistaken;
 mod plans;
+mod refusal_values;
+mod step_values;
 mod telling;
+mod values;
 
 pub use explaining::{explain_certificate, explain_instance, explain_plan};

@@ -17,7 +17,7 @@ use Rattle.instance_variants.proofs.VariedPlans.{valid_across}
 use Rattle.instance_variants.proofs.LaterProcesses.{count, deadline_is, differ, release_kept, wcet_kept}
 
 -- the greatest of some numbers is at most what none of them is past
-greatest_within : (f : ℕ → ℕ) (n x : ℕ) → ((p : ℕ) → p < n → f p ≤ x) → greatest (map f (range_with_len 0 n)) ≤ x
+pub greatest_within : (f : ℕ → ℕ) (n x : ℕ) → ((p : ℕ) → p < n → f p ≤ x) → greatest (map f (range_with_len 0 n)) ≤ x
 greatest_within f zero x each = omega arith
 greatest_within f (suc n) x each =
     let more = rw add-one at (greatest_more f n) in

@@ -22,3 +22,7 @@ pub mod KeptLaws
 pub mod Whole
 pub mod Leaving
 pub mod Keeps
+pub mod Scales
+pub mod ShorterRuns
+pub mod LongerRuns
+pub mod WithinPlans

@@ -8,3 +8,5 @@ pub mod Only
 pub mod Fewer
 pub mod Grown
 pub mod Slack
+pub mod Within
+pub mod Longer

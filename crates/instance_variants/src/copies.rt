@@ -1,4 +1,4 @@
-//! What is a node or a message in memory of its own?
+//! What is a node, a process or a message in memory of its own?
 
 ghost use Rattle.std.specs.Prelude.{◌≡◌, IfOk};
 
@@ -12,6 +12,14 @@ fn copy_of_node(alloc: Global, node: &Node) -> Result<Node, MemoryFault>
     let name = node.name.copy(alloc)?;
     let capacities = node.capacities.copy(alloc)?;
     Ok(Node { name, capacities })
+}
+
+/// The same process.
+fn copy_of_process(alloc: Global, process: &Process) -> Result<Process, MemoryFault>
+    ensures { IfOk result (λ copy. copy ≡ process.now) }
+{
+    let name = process.name.copy(alloc)?;
+    Ok(Process { name, ..*process })
 }
 
 /// The same message.
@@ -34,6 +42,20 @@ pub fn copies_of_nodes(alloc: Global, nodes: &[Node]) -> Result<Vec<Node>, Memor
     let mut copies = Vec::new(alloc);
     for node in nodes {
         copies.push(copy_of_node(alloc, node)?)?;
+    }
+    Ok(copies)
+}
+
+/// The same processes.
+pub fn copies_of_processes(
+    alloc: Global,
+    processes: &[Process],
+) -> Result<Vec<Process>, MemoryFault>
+    ensures { IfOk result (λ copies. copies.items ≡ processes.now) }
+{
+    let mut copies = Vec::new(alloc);
+    for process in processes {
+        copies.push(copy_of_process(alloc, process)?)?;
     }
     Ok(copies)
 }

@@ -12,10 +12,16 @@ mod late;
 mod later;
 mod later_laws;
 mod laws;
+mod longer;
+mod longer_laws;
+mod margins;
+mod scale;
 mod slack;
+mod within;
+mod within_laws;
 
 pub use build::built;
-pub use copies::{copies_of_messages, copies_of_nodes};
+pub use copies::{copies_of_messages, copies_of_nodes, copies_of_processes};
 pub use cut::with_deadlines;
 pub use cut_laws::{
     cut_deadlines_end_by, cut_instances_keep_the_rules, delays_are_kept, ends_are_by,
@@ -35,4 +41,12 @@ pub use later_laws::{
 pub use laws::{
     instances_are_their_own_variants, plans_are_valid_by_their_times, rules_are_kept_with_windows,
 };
+pub use longer::{longer_by, with_longer};
+pub use longer_laws::{
+    own_margins_are_had_at_once, shorter_runs_keep_plans, windows_bound_margins,
+};
+pub use margins::{first_without_room, own_margin, window_margin};
+pub use scale::{Scale, number_of, ticks_of};
 pub use slack::slack_of;
+pub use within::with_horizon;
+pub use within_laws::{instances_within_keep_the_rules, plans_end_within};

@@ -106,6 +106,34 @@ pub const LIMIT: CommandLines = CommandLines {
     nothing: "none",
 };
 
+/// `margin`: a line, and a plan behind it.
+pub const MARGIN: CommandLines = CommandLines {
+    name: "margin",
+    head: "",
+    answers: &[
+        LineRow {
+            begins: "margin",
+            keys: &["margin", "_", "window"],
+        },
+        LineRow {
+            begins: "between",
+            keys: &["low", "high"],
+        },
+        LineRow {
+            begins: "unknown",
+            keys: &["high"],
+        },
+        LineRow {
+            begins: "none",
+            keys: &[],
+        },
+    ],
+    items: &[],
+    list: "",
+    late: &[],
+    nothing: "-",
+};
+
 /// `why`: what was found, and the constraints of a set that leaves no plan.
 pub const WHY: CommandLines = CommandLines {
     name: "why",

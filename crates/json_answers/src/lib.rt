@@ -9,6 +9,6 @@ mod rows;
 mod words;
 
 pub use answers::{tell, untold};
-pub use commands::{COMPARE, CommandLines, EXPLAIN, JUDGE, LIMIT, VERIFY, WHY};
+pub use commands::{COMPARE, CommandLines, EXPLAIN, JUDGE, LIMIT, MARGIN, VERIFY, WHY};
 pub use members::{Members, Reasons};
 pub use rows::LineRow;

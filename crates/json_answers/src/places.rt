@@ -28,6 +28,10 @@ const BARE: &[LineRow] = &[
         keys: &["word"],
     },
     LineRow {
+        begins: "margin name",
+        keys: &["word"],
+    },
+    LineRow {
         begins: "usage bundle",
         keys: &[],
     },

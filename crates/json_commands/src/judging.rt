@@ -1,9 +1,13 @@
 //! What do `verify`, `judge` and `compare` say as an object?
 
-ghost use Rattle.std.specs.Prelude.{◌+◌};
+ghost use Rattle.std.specs.Prelude.{◌+◌, IfSome};
 ghost use Rattle.command_streams.specs.declared.limits.TheConstants.{CERTIFICATE_LIMIT, INSTANCE_LIMIT, PLAN_LIMIT};
 ghost use Rattle.command_streams.specs.Streams.{TakesAtMost};
+ghost use Rattle.plan_commands.specs.Comparisons.{IsCompareAnswer};
+ghost use Rattle.plan_commands.specs.Judged.{IsJudgeAnswer};
 ghost use Rattle.plan_commands.specs.Printed.{printed_limit};
+ghost use Rattle.plan_commands.specs.Verdicts.{IsVerdict};
+ghost use Rattle.json_answers.specs.Telling.{IsToldAsJson};
 
 use command_streams::End;
 use json_answers::{COMPARE, JUDGE, Reasons, VERIFY, tell};
@@ -19,6 +23,8 @@ pub fn verify_json<I: Read, P: Read, W: Write>(
     plan: &mut P,
     out: &mut W,
 ) -> End
+    ensures verdict { IfSome (I.remaining instance.old) (λ i. IfSome (P.remaining plan.old) (λ p.
+        IsToldAsJson (IsVerdict i p) (W.contents out.old) (W.contents out.new) result)) }
     ensures instance { TakesAtMost (INSTANCE_LIMIT + 1) (I.remaining instance.old) (I.remaining instance.new) }
     ensures plan { TakesAtMost (PLAN_LIMIT + 1) (P.remaining plan.old) (P.remaining plan.new) }
 {
@@ -43,6 +49,8 @@ pub fn judge_json<I: Read, P: Read, C: Read, W: Write>(
     certificate: &mut C,
     out: &mut W,
 ) -> End
+    ensures answer { IfSome (I.remaining instance.old) (λ i. IfSome (P.remaining plan.old) (λ p. IfSome (C.remaining certificate.old) (λ c.
+        IsToldAsJson (IsJudgeAnswer i p c) (W.contents out.old) (W.contents out.new) result))) }
     ensures instance { TakesAtMost (INSTANCE_LIMIT + 1) (I.remaining instance.old) (I.remaining instance.new) }
     ensures plan { TakesAtMost (printed_limit + 1) (P.remaining plan.old) (P.remaining plan.new) }
     ensures certificate { TakesAtMost (CERTIFICATE_LIMIT + 1) (C.remaining certificate.old) (C.remaining certificate.new) }
@@ -68,6 +76,10 @@ pub fn compare_json<I: Read, P: Read, J: Read, Q: Read, W: Write>(
     new_plan: &mut Q,
     out: &mut W,
 ) -> End
+    ensures answer { IfSome (I.remaining old_instance.old) (λ i. IfSome (P.remaining old_plan.old) (λ p.
+        IfSome (J.remaining new_instance.old) (λ j. IfSome (Q.remaining new_plan.old) (λ q.
+        IsToldAsJson (IsCompareAnswer (record { instance = i; plan = p }) (record { instance = j; plan = q }))
+        (W.contents out.old) (W.contents out.new) result)))) }
     ensures old_instance { TakesAtMost (INSTANCE_LIMIT + 1) (I.remaining old_instance.old) (I.remaining old_instance.new) }
     ensures old_plan { TakesAtMost (printed_limit + 1) (P.remaining old_plan.old) (P.remaining old_plan.new) }
     ensures new_instance { TakesAtMost (INSTANCE_LIMIT + 1) (J.remaining new_instance.old) (J.remaining new_instance.new) }

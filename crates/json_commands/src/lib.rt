@@ -3,11 +3,15 @@
 
 mod explaining;
 mod judging;
+mod longer;
 mod searching;
 
 pub use explain_command::{explain_certificate, explain_instance, explain_plan};
 pub use explaining::{explain_certificate_json, explain_instance_json, explain_plan_json};
-pub use json_answers::{COMPARE, CommandLines, EXPLAIN, JUDGE, LIMIT, Reasons, VERIFY, WHY, tell};
+pub use json_answers::{
+    COMPARE, CommandLines, EXPLAIN, JUDGE, LIMIT, MARGIN, Reasons, VERIFY, WHY, tell,
+};
 pub use judging::{compare_json, judge_json, verify_json};
-pub use question_commands::{Asking, Beside, Wanted, limit_run, why_run};
+pub use longer::margin_json;
+pub use question_commands::{Asking, Beside, Scale, Terms, Wanted, limit_run, margin_run, why_run};
 pub use searching::{limit_json, why_json};

@@ -1,8 +1,12 @@
 //! What do `limit` and `why` say as an object?
 
-ghost use Rattle.std.specs.Prelude.{◌+◌};
+ghost use Rattle.std.specs.Prelude.{◌+◌, IfSome};
 ghost use Rattle.command_streams.specs.declared.limits.TheConstants.{INSTANCE_LIMIT};
 ghost use Rattle.command_streams.specs.Streams.{TakesAtMost};
+ghost use Rattle.question_commands.specs.Limited.{IsLimitAnswer};
+ghost use Rattle.question_commands.specs.Names.{texts_of};
+ghost use Rattle.question_commands.specs.Answers.{IsWhyAnswer};
+ghost use Rattle.json_answers.specs.Telling.{IsToldAsJson};
 
 use command_streams::End;
 use json_answers::{LIMIT, Reasons, WHY, tell, untold};
@@ -14,7 +18,7 @@ use std::sync::Wait;
 use std::thread::Threads;
 
 /// The processes that words name, which are told beside an answer.
-fn named(alloc: Global, words: &[&str]) -> Result<Reasons, AllocError> {
+pub fn named(alloc: Global, words: &[&str]) -> Result<Reasons, AllocError> {
     let mut reasons = Reasons::asked(alloc);
     reasons.push(alloc, "processes", &words)?;
     Ok(reasons)
@@ -31,6 +35,10 @@ pub fn limit_json<R: Threads + Wait + Sync, G: Gate + Sync, I: Read, C: Write, S
     reduced: &mut S,
     out: &mut W,
 ) -> End
+    ensures answer { IfSome (I.remaining instance.old) (λ bytes. IsToldAsJson
+        (IsLimitAnswer bytes (texts_of words.now) asking.now.options beside
+        (C.contents certificate.old) (C.contents certificate.new) (S.contents reduced.old) (S.contents reduced.new))
+        (W.contents out.old) (W.contents out.new) result) }
     ensures most { TakesAtMost (INSTANCE_LIMIT + 1) (I.remaining instance.old) (I.remaining instance.new) }
 {
     let alloc = asking.alloc;
@@ -61,6 +69,10 @@ pub fn why_json<R: Threads + Wait + Sync, G: Gate + Sync, I: Read, C: Write, S: 
     reduced: &mut S,
     out: &mut W,
 ) -> End
+    ensures answer { IfSome (I.remaining instance.old) (λ bytes. IsToldAsJson
+        (IsWhyAnswer bytes asking.now.options wanted
+        (C.contents certificate.old) (C.contents certificate.new) (S.contents reduced.old) (S.contents reduced.new))
+        (W.contents out.old) (W.contents out.new) result) }
     ensures most { TakesAtMost (INSTANCE_LIMIT + 1) (I.remaining instance.old) (I.remaining instance.new) }
 {
     let alloc = asking.alloc;

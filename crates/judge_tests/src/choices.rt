@@ -6,7 +6,7 @@ ghost use Rattle.tt_choice.specs.Choice.{IsChoice};
 use crate::decisions::chosen;
 use crate::instances;
 use crate::instances::Small;
-use crate::kept_decisions::{expect_line, line};
+use crate::same_choices::is_same;
 use std::alloc::Global;
 use std::process::Abort;
 use std::test::Fail;
@@ -16,7 +16,7 @@ use ttp_model::{Instance, Kind, MemoryFault};
 use worked_instances::PLAIN;
 
 /// Something that a choice is asked, and its answer.
-pub enum Asked {
+enum Asked {
     /// So much is left to choose; where nothing is, the choice is complete.
     Left(usize),
     /// Whether this branch is open.
@@ -111,11 +111,11 @@ fn copied(alloc: Global, i: &Instance, choice: &Choice) -> Result<Choice, Memory
 }
 
 /// Decisions, and what their choice is asked.
-pub struct Row {
-    pub label: &'static str,
-    pub small: Small,
-    pub decisions: &'static [Decision],
-    pub asked: &'static [Asked],
+struct Row {
+    label: &'static str,
+    small: Small,
+    decisions: &'static [Decision],
+    asked: &'static [Asked],
 }
 
 /// Checks the copy of a row's choice.
@@ -133,16 +133,51 @@ fn expect_copy(
     Ok(())
 }
 
+/// Checks the choice of a row on its instance, and the choice's copy.
+fn expect_on(rt: &impl Abort, alloc: Global, i: &Instance, row: &Row) -> Result<(), MemoryFault> {
+    let choice = chosen(rt, alloc, i, row.decisions)?;
+    expect_all(rt, i, &choice, row.label, row.asked);
+    expect_copy(rt, alloc, i, &choice, row)
+}
+
 /// Checks the choice of a row, and its copy.
-pub fn expect(rt: &impl Abort, alloc: Global, row: &Row) -> Result<(), Fail> {
+fn expect(rt: &impl Abort, alloc: Global, row: &Row) -> Result<(), Fail> {
     let i = row.small.build(alloc)?;
-    let choice = chosen(rt, alloc, &i, row.decisions)?;
-    expect_all(rt, &i, &choice, row.label, row.asked);
-    expect_copy(rt, alloc, &i, &choice, row)?;
+    Ok(expect_on(rt, alloc, &i, row)?)
+}
+
+/// Checks all rows.
+pub fn expect_rows(rt: &impl Abort, alloc: Global) -> Result<(), Fail> {
+    for row in ROWS {
+        expect(rt, alloc, row)?;
+    }
     Ok(())
 }
 
-pub static ROWS: &[Row] = &[
+static ROWS: &[Row] = &[
+    // How far the slots can move, and how much is left.
+    Row {
+        label: "at the root eleven halvings are left",
+        small: Small::OneMessage(PLAIN),
+        decisions: &[],
+        asked: &[
+            Asked::Left(11),
+            Asked::Starts(0, 0, 1),
+            Asked::Ends(0, 7, 8),
+        ],
+    },
+    Row {
+        label: "a node that comes first delays the slot of the other",
+        small: Small::OneMessage(PLAIN),
+        decisions: &[Place(1)],
+        asked: &[Asked::Placed(&[1]), Asked::Starts(0, 1, 1), Asked::Left(10)],
+    },
+    Row {
+        label: "a free capacity moves the end of a slot with two messages",
+        small: Small::Of(instances::TWO_RECEIVERS),
+        decisions: &[],
+        asked: &[Asked::Ends(0, 7, 12)],
+    },
     Row {
         label: "a free capacity moves the end of a slot",
         small: Small::Of(instances::TWO_OPTIONS),
@@ -343,7 +378,7 @@ pub static ROWS: &[Row] = &[
 ];
 
 /// A branch that is open where nothing is chosen: its decisions in their order, and what the choice of each is asked.
-pub struct Branch {
+struct Branch {
     label: &'static str,
     small: Small,
     kind: Kind,
@@ -414,13 +449,13 @@ fn expect_undone(
 ) -> Result<(), MemoryFault>
     requires { IsChoice i.now root.now }
 {
-    let before = line(alloc, i, root)?;
     let mut child = copied(alloc, i, root)?;
     assert!(rt; child.is_open_decision(i, decision));
     child.decide(alloc, i, decision)?;
-    assert!(rt; child.kept() == 1);
+    assert!(rt; child.kept() == 1 && !is_same(i, root, &child));
     child.undo();
-    expect_line(rt, alloc, i, &child, before.as_str(), true)
+    assert!(rt; is_same(i, root, &child));
+    Ok(())
 }
 
 /// Checks the decisions of a branch at the choice in which nothing is chosen, and the choices that they lead to.
@@ -443,27 +478,35 @@ fn expect_branch_at(
 }
 
 /// Checks a branch.
-pub fn expect_branch(rt: &impl Abort, alloc: Global, branch: &Branch) -> Result<(), Fail> {
+fn expect_branch(rt: &impl Abort, alloc: Global, branch: &Branch) -> Result<(), Fail> {
     let i = branch.small.build(alloc)?;
     let root = Choice::root(alloc, &i)?;
     expect_branch_at(rt, alloc, &i, &root, branch)?;
     Ok(())
 }
 
+/// Checks all branches.
+pub fn expect_branches(rt: &impl Abort, alloc: Global) -> Result<(), Fail> {
+    for branch in BRANCHES {
+        expect_branch(rt, alloc, branch)?;
+    }
+    Ok(())
+}
+
 /// `refused_in_turn` checks these.
-pub static BRANCHES: &[Branch] = &[
+static BRANCHES: &[Branch] = &[
     Branch {
         label: "the children of a branch come in order: which node comes next",
         small: Small::Of(instances::TWO_OPTIONS),
         kind: Kind::Place,
-        decisions: &[Place(0), Place(1)],
+        decisions: &[Decision::Place(0), Decision::Place(1)],
         children: &[&[Asked::Placed(&[0])], &[Asked::Placed(&[1])]],
     },
     Branch {
         label: "the children of a branch come in order: which capacity a node has",
         small: Small::Of(instances::TWO_OPTIONS),
         kind: Kind::Cap(0),
-        decisions: &[Cap(0, 0), Cap(0, 1)],
+        decisions: &[Decision::Cap(0, 0), Decision::Cap(0, 1)],
         children: &[
             &[Asked::Placed(&[]), Asked::Fixed(0, Some(2))],
             &[Asked::Placed(&[]), Asked::Fixed(0, Some(4))],
@@ -473,7 +516,7 @@ pub static BRANCHES: &[Branch] = &[
         label: "the children of a branch come in order: in which rounds a message goes",
         small: Small::Of(instances::TWO_OPTIONS),
         kind: Kind::Round(0, 4),
-        decisions: &[AtMost(0, 4), AtLeast(0, 5)],
+        decisions: &[Decision::AtMost(0, 4), Decision::AtLeast(0, 5)],
         children: &[
             &[Asked::Placed(&[]), Asked::Rounds(0, 0, 4)],
             &[Asked::Placed(&[]), Asked::Rounds(0, 5, 99)],
@@ -483,7 +526,11 @@ pub static BRANCHES: &[Branch] = &[
         label: "the children of a message's channel are either, and both",
         small: Small::TwoChannels(false),
         kind: Kind::Chan(1),
-        decisions: &[Channel(1, 0), Channel(1, 1), Channel(1, 2)],
+        decisions: &[
+            Decision::Channel(1, 0),
+            Decision::Channel(1, 1),
+            Decision::Channel(1, 2),
+        ],
         children: &[
             &[Asked::Channel(0, None), Asked::Channel(1, Some(0))],
             &[Asked::Channel(0, None), Asked::Channel(1, Some(1))],
@@ -494,7 +541,7 @@ pub static BRANCHES: &[Branch] = &[
         label: "the children of a pair are its two orders",
         small: Small::Of(instances::THREE_LENGTHS),
         kind: Kind::Pair(1, 0),
-        decisions: &[Before(1, 0), Before(0, 1)],
+        decisions: &[Decision::Before(1, 0), Decision::Before(0, 1)],
         children: &[
             &[Asked::Ordered(1, 0, true), Asked::Ordered(0, 1, false)],
             &[Asked::Ordered(1, 0, false), Asked::Ordered(0, 1, true)],

@@ -1,9 +1,8 @@
 //! Complete choices of small instances: their earliest plans and their clashes.
 
-use crate::choices::Asked;
+use crate::choices;
 use crate::decisions::chosen;
 use crate::instances::Small;
-use crate::{choices, instances};
 use earliest_starts::{Clash, Earliest, earliest};
 use std::alloc::Global;
 use std::process::Abort;
@@ -73,40 +72,14 @@ fn outcome(
 }
 
 /// Checks what comes of the choice of a row.
-pub fn expect(rt: &impl Abort, alloc: Global, row: &Row) -> Result<(), Fail> {
+fn expect(rt: &impl Abort, alloc: Global, row: &Row) -> Result<(), Fail> {
     let i = row.small.build(alloc)?;
     let found = outcome(rt, alloc, &i, row.decisions)?;
     assert!(rt; row.answer.is(&found), "{}", row.label);
     Ok(())
 }
 
-/// Choices that leave much open: how far the slots can move, and how much is left.
-static INCOMPLETE: &[choices::Row] = &[
-    choices::Row {
-        label: "at the root eleven halvings are left",
-        small: Small::OneMessage(PLAIN),
-        decisions: &[],
-        asked: &[
-            Asked::Left(11),
-            Asked::Starts(0, 0, 1),
-            Asked::Ends(0, 7, 8),
-        ],
-    },
-    choices::Row {
-        label: "a node that comes first delays the slot of the other",
-        small: Small::OneMessage(PLAIN),
-        decisions: &[Place(1)],
-        asked: &[Asked::Placed(&[1]), Asked::Starts(0, 1, 1), Asked::Left(10)],
-    },
-    choices::Row {
-        label: "a free capacity moves the end of a slot with two messages",
-        small: Small::Of(instances::TWO_RECEIVERS),
-        decisions: &[],
-        asked: &[Asked::Ends(0, 7, 12)],
-    },
-];
-
-pub static ROWS: &[Row] = &[
+static ROWS: &[Row] = &[
     Row {
         label: "a receiver starts when its slot has ended",
         small: Small::OneMessage(PLAIN),
@@ -237,15 +210,16 @@ pub static ROWS: &[Row] = &[
     },
 ];
 
-#[test]
-fn complete_choices(rt: HostRuntime) -> Result<(), Fail> {
-    for rows in &[choices::ROWS, INCOMPLETE] {
-        for row in *rows {
-            choices::expect(&rt, rt.alloc(), row)?;
-        }
-    }
+/// Checks all rows.
+pub fn expect_rows(rt: &impl Abort, alloc: Global) -> Result<(), Fail> {
     for row in ROWS {
-        expect(&rt, rt.alloc(), row)?;
+        expect(rt, alloc, row)?;
     }
     Ok(())
+}
+
+#[test]
+fn complete_choices(rt: HostRuntime) -> Result<(), Fail> {
+    choices::expect_rows(&rt, rt.alloc())?;
+    expect_rows(&rt, rt.alloc())
 }

@@ -3,6 +3,7 @@
 ghost use Rattle.std.specs.Prelude.{IfOk};
 ghost use Rattle.tt_choice.specs.Choice.{IsChoice};
 
+use path_bounds::Propagator;
 use std::alloc::Global;
 use std::process::Abort;
 use tt_choice::{Choice, Decision};
@@ -38,34 +39,16 @@ pub fn first_facts<'a>(
     Facts::new(alloc, i, &choice, goal)
 }
 
-/// A number below a count, of a random one.
-fn below(random: u32, count: usize) -> u32 {
-    if count == 0 {
-        0
-    } else {
-        (random as usize % count) as u32
+/// Makes a decision, where it is open and a plan may be left. Whether it does.
+pub fn decide(
+    alloc: Global,
+    propagator: &mut Propagator,
+    decision: Decision,
+) -> Result<bool, MemoryFault> {
+    let facts = propagator.facts();
+    if propagator.closed() || !facts.choice().is_open_decision(facts.instance(), decision) {
+        return Ok(false);
     }
-}
-
-/// The next of some numbers that look random.
-pub fn next(seed: u32) -> u32 {
-    seed.wrapping_mul(1_664_525).wrapping_add(1_013_904_223)
-}
-
-/// Some decision, which needn't be open. It may be on a channel where there are two.
-pub fn some_decision(i: &Instance, seed: u32) -> Decision {
-    let first = next(seed) >> 8;
-    let second = next(next(seed)) >> 8;
-    let p = below(first, i.processes().len());
-    let m = below(first, i.messages().len());
-    let n = below(first, i.nodes().len());
-    let kinds = if i.cluster().channels == 2 { 6 } else { 5 };
-    match (seed >> 8) % kinds {
-        0 => Decision::Place(n),
-        1 => Decision::Cap(n, below(second, 3)),
-        2 => Decision::Before(p, below(second, i.processes().len())),
-        3 => Decision::AtMost(m, below(second, 40)),
-        4 => Decision::AtLeast(m, below(second, 20)),
-        _ => Decision::Channel(m, below(second, 4)),
-    }
+    propagator.decide(alloc, decision)?;
+    Ok(true)
 }

@@ -4,7 +4,7 @@ use self::Part::{Link, Message, Node, Process, Within};
 use std::alloc::{AllocError, Global};
 use ttp_model::{Cluster, Instance, ModelError};
 use worked_instances::{
-    Draft, PLAIN, deadline, no_frame, one_message, overfull, three_alike, three_linked, two_alike,
+    Draft, PLAIN, deadline, no_frame, one_message, overfull, three_alike, three_linked,
     two_messages,
 };
 
@@ -28,12 +28,11 @@ pub enum Part {
     Message(&'static str, u32, u32, u32),
 }
 
-/// A small instance. The first eight are worked instances.
+/// A small instance. The first seven are worked instances.
 pub enum Small {
     OneMessage(Cluster),
     Overfull,
     NoFrame,
-    TwoAlike,
     ThreeAlike,
     ThreeLinked,
     Deadline,
@@ -52,7 +51,6 @@ impl Small {
             Small::OneMessage(cluster) => one_message(alloc, cluster),
             Small::Overfull => overfull(alloc),
             Small::NoFrame => no_frame(alloc),
-            Small::TwoAlike => two_alike(alloc),
             Small::ThreeAlike => three_alike(alloc),
             Small::ThreeLinked => three_linked(alloc),
             Small::Deadline => deadline(alloc),
@@ -151,20 +149,6 @@ pub const SILENT_NODES: &[Part] = &[
     Message("m", 0, 1, 2),
 ];
 
-/// Two nodes that send nothing, with the same capacity, and a process of 3 ticks on the first.
-pub const TWO_SILENT: &[Part] = &[Node("A", &[0]), Node("B", &[0]), Process("p", 0, 3)];
-
-/// Nodes A and B send nothing and have the same capacities. C has other ones, and D sends.
-pub const THREE_SILENT: &[Part] = &[
-    Node("A", &[1]),
-    Node("B", &[1]),
-    Node("C", &[1, 2]),
-    Node("D", &[1]),
-    Process("p", 3, 1),
-    Process("q", 0, 1),
-    Message("m", 0, 1, 1),
-];
-
 /// Processes 0 and 1 on A, 2 and 3 on B; process 0 sends to 2, and 3 to 1.
 const THERE_AND_BACK: &[Part] = &[
     Node("A", &[1]),
@@ -175,27 +159,6 @@ const THERE_AND_BACK: &[Part] = &[
     Process("d", 1, 1),
     Message("m1", 0, 2, 1),
     Message("m2", 3, 1, 1),
-];
-
-/// The first two processes on A are alike. Each other one there differs from them in one thing: how
-/// long it takes, when it is released, when it has to end, a link from it or to it, a message that
-/// it sends or receives. The last process is on B.
-pub const NEARLY_ALIKE: &[Part] = &[
-    Node("A", &[1]),
-    Node("B", &[1]),
-    Process("a", 0, 2),
-    Process("b", 0, 2),
-    Process("longer", 0, 3),
-    Within("released", 0, 2, (1, 1_000_000)),
-    Within("hurried", 0, 2, (0, 99)),
-    Process("before", 0, 2),
-    Process("after", 0, 2),
-    Process("sends", 0, 2),
-    Process("receives", 0, 2),
-    Process("away", 1, 2),
-    Link(5, 6),
-    Message("m1", 7, 9, 1),
-    Message("m2", 9, 8, 1),
 ];
 
 /// Processes p of 1 tick and r of 20 on A, whose frame holds 4 bytes, send to process q of 1 tick on

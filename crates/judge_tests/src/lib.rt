@@ -2,8 +2,6 @@
 #![tactic(auto)]
 
 #[cfg(test)]
-mod alike;
-#[cfg(test)]
 mod building;
 #[cfg(test)]
 mod choices;
@@ -12,15 +10,9 @@ mod complete_choices;
 #[cfg(test)]
 mod decisions;
 #[cfg(test)]
-mod inference;
-#[cfg(test)]
 mod instances;
 #[cfg(test)]
-mod kept_decisions;
-#[cfg(test)]
 mod loads;
-#[cfg(test)]
-mod outcomes;
 #[cfg(test)]
 mod plan_verdicts;
 #[cfg(test)]
@@ -30,8 +22,8 @@ mod propagation;
 #[cfg(test)]
 mod refusals;
 #[cfg(test)]
-mod settled_plans;
+mod same_choices;
 #[cfg(test)]
-mod slot_times;
+mod settled_plans;
 #[cfg(test)]
 mod text_faults;

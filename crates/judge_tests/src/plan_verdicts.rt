@@ -1,12 +1,14 @@
 //! Which verdicts do plans get that no text spells?
 
-use crate::building::{LAWFUL, Tables, build};
+use crate::instances::Part::{Message, Node, Process};
+use crate::instances::Small;
 use crate::plans::{Lists, plan_of};
 use plan_check::{PlanFault, PlanPart, check};
-use std::alloc::Global;
+use std::alloc::{AllocError, Global};
 use std::process::Abort;
 use std::test::Fail;
-use ttp_model::MOST_TICKS;
+use ttp_model::Instance;
+use worked_instances::PLAIN;
 
 /// A plan, and the rule that it breaks first.
 type Refused = (Lists<'static>, PlanFault);
@@ -56,10 +58,14 @@ const WRONG_LISTS: &[Refused] = &[
 ];
 
 /// Three nodes, of which the last has no process.
-const THREE_NODES: Tables = Tables {
-    nodes: &[("A", &[2]), ("B", &[0]), ("C", &[0])],
-    ..LAWFUL
-};
+const THREE_NODES: Small = Small::Of(&[
+    Node("A", &[2]),
+    Node("B", &[0]),
+    Node("C", &[0]),
+    Process("p", 0, 3),
+    Process("q", 1, 2),
+    Message("m", 0, 1, 2),
+]);
 
 /// A node that stands in the order again, though not just behind itself, and one that isn't there.
 const WRONG_ORDERS: &[Refused] = &[
@@ -89,14 +95,6 @@ const WRONG_CHANNELS: &[Refused] = &[
     (of_one!(&[4_294_967_295]), PlanFault::WrongChannel(0)),
 ];
 
-/// A process on node A sends 2 bytes and 3 to one on node B, and A's frames hold 4.
-const TWO_MESSAGES: Tables = Tables {
-    nodes: &[("A", &[4]), ("B", &[0])],
-    processes: &[("p", 0, 1, MOST_TICKS), ("q", 1, 1, MOST_TICKS)],
-    messages: &[("m1", &[1], 2), ("m2", &[1], 3)],
-    ..LAWFUL
-};
-
 /// A plan of both in one frame, with these channels.
 macro_rules! of_two {
     ($channels:expr) => {
@@ -117,25 +115,45 @@ const SHARED_FRAMES: &[Refused] = &[
 ];
 
 /// Plans of these instances that are refused.
-const REFUSED: &[(&str, Tables, &[Refused])] = &[
-    ("lists", LAWFUL, WRONG_LISTS),
+const REFUSED: &[(&str, Small, &[Refused])] = &[
+    ("lists", Small::OneMessage(PLAIN), WRONG_LISTS),
     ("orders", THREE_NODES, WRONG_ORDERS),
-    ("channels", LAWFUL, WRONG_CHANNELS),
-    ("frames", TWO_MESSAGES, SHARED_FRAMES),
+    ("channels", Small::OneMessage(PLAIN), WRONG_CHANNELS),
+    ("frames", Small::Overfull, SHARED_FRAMES),
 ];
 
-/// Each of these plans is refused for the rule beside it.
+/// Whether a plan is refused for the rule beside it.
+fn is_refused(
+    alloc: Global,
+    instance: &Instance,
+    (lists, fault): &Refused,
+) -> Result<bool, AllocError> {
+    let plan = plan_of(alloc, *lists)?;
+    Ok(check(instance, &plan) == Err(*fault))
+}
+
+/// Each of these plans is.
+fn are_refused_on(
+    rt: &impl Abort,
+    alloc: Global,
+    instance: &Instance,
+    what: &str,
+    rows: &[Refused],
+) -> Result<(), AllocError> {
+    for (k, row) in rows.iter().enumerate() {
+        assert!(rt; is_refused(alloc, instance, row)?, "{what} {k}");
+    }
+    Ok(())
+}
+
+/// Each of these plans of an instance is.
 fn are_refused(
     rt: &impl Abort,
     alloc: Global,
-    (what, tables, rows): &(&str, Tables, &[Refused]),
+    (what, small, rows): &(&str, Small, &[Refused]),
 ) -> Result<(), Fail> {
-    let instance = build(alloc, tables)?;
-    for (k, (lists, fault)) in rows.iter().enumerate() {
-        let plan = plan_of(alloc, *lists)?;
-        assert!(rt; check(&instance, &plan) == Err(*fault), "{what} {k}");
-    }
-    Ok(())
+    let instance = small.build(alloc)?;
+    Ok(are_refused_on(rt, alloc, &instance, what, rows)?)
 }
 
 #[test]

@@ -3,7 +3,6 @@
 ghost use Rattle.std.specs.Prelude.{IfOk};
 ghost use Rattle.ttp_model.specs.Plans.{IsValid};
 
-use crate::outcomes::same;
 use plan_check::check;
 use std::alloc::{AllocError, Global};
 use std::process::Abort;
@@ -41,7 +40,8 @@ pub fn valid_plan(
     ensures { IfOk result (IsValid instance.now) }
 {
     let plan = plan_of(alloc, lists)?;
-    let found = check(instance, &plan).expect(rt, "a valid plan");
-    same(rt, "the delay", found, delay);
-    Ok(plan)
+    match check(instance, &plan) {
+        Ok(found) if found == delay => Ok(plan),
+        _ => panic!(rt; "no valid plan of {delay} ticks"),
+    }
 }

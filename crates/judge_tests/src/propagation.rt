@@ -1,21 +1,18 @@
 //! Bounds of small instances, counted by hand.
 
 mod fixed_points;
-mod many_decisions;
-pub mod trail;
 
 ghost use Rattle.tt_choice.specs.Choice.{IsChoice};
 
 use crate::decisions::chosen;
 use crate::instances::Small;
 use crate::{instances, loads};
-use path_bounds::{Agenda, Reached, best_goal, leaf_by, path_bound, propagate};
+use path_bounds::{Agenda, Reached, best_goal, path_bound, propagate};
 use std::alloc::Global;
 use std::process::Abort;
 use std::test::Fail;
 use tt_choice::Decision::{AtLeast, AtMost, Before, Channel};
 use tt_choice::{Choice, Decision};
-use tt_infer::Facts;
 use ttp_model::{Cluster, Instance, Leaf, MOST_TICKS, MemoryFault, Step};
 use worked_instances::PLAIN;
 
@@ -25,118 +22,75 @@ enum Asked {
     PathBound(u32),
     /// Whether propagation closes the choice at this goal.
     Closes(u32, bool),
-    /// Propagation closes the choice at this goal, at last since this message is late where this round could take it.
-    Late(u32, u32, u32),
     /// The leaf that closes the choice up to this top has this goal.
     Leaf(u32, u32),
     /// The leaf that closes the choice up to this top has so many steps at most.
     Steps(u32, usize),
-    /// The leaf that closes the choice up to this goal has fewer steps than propagation takes at it.
-    Fewer(u32),
+    /// The leaf that closes the choice up to this top does it since this message is late where this round could take it.
+    Late(u32, u32, u32),
 }
 
-/// The steps by which propagation closes a choice: how many they are, and of the last one the message and the round, if by it a message is
-/// late where the round could take it.
-type Closing = (usize, Option<(u32, u32)>);
-
-/// The message and the round of a step by which the message is late where the round could take it.
-fn late(step: Option<&Step>) -> Option<(u32, u32)> {
-    // No other step says so.
-    if let Some(Step::XLate(m, r)) = step {
-        return Some((*m, *r));
-    }
-    None
-}
-
-/// The steps by which propagation closes a choice at a goal, if it does.
-fn closed_at(
-    alloc: Global,
-    i: &Instance,
-    choice: &Choice,
-    goal: u32,
-) -> Result<Option<Closing>, MemoryFault>
+/// Whether propagation closes a choice at a goal.
+fn closes(alloc: Global, i: &Instance, choice: &Choice, goal: u32) -> Result<bool, MemoryFault>
     requires { IsChoice i.now choice.now }
 {
     let mut agenda = Agenda::of(alloc, i)?;
     let mut steps = Vec::new(alloc);
     match propagate(alloc, &mut agenda, i, choice, goal, &mut steps)? {
-        Reached::Closed => Ok(Some((steps.len(), late(steps.last())))),
-        Reached::At(_) => Ok(None),
+        Reached::Closed => Ok(true),
+        Reached::At(_) => Ok(false),
     }
 }
 
-/// Whether the leaf's steps close the choice at its goal, one after another, and so give a leaf again.
-fn replays(alloc: Global, i: &Instance, choice: &Choice, leaf: &Leaf) -> Result<bool, MemoryFault>
-    requires { IsChoice i.now choice.now }
-{
-    let mut facts = Facts::new(alloc, i, choice, leaf.goal)?;
-    for step in leaf.steps.as_slice() {
-        if facts.apply(step).is_err() {
-            return Ok(false);
-        }
+/// Whether by the last step of a leaf this message is late where this round could take it.
+fn ends_late(leaf: &Leaf, m: u32, r: u32) -> bool {
+    // No other step says so.
+    if let Some(Step::XLate(message, round)) = leaf.steps.as_slice().last() {
+        return *message == m && *round == r;
     }
-    let again = leaf_by(alloc, i, choice, leaf.goal, leaf.steps.as_slice())?;
-    Ok(facts.closed() && again.is_some())
+    false
 }
 
-/// The goal of the leaf that closes a choice up to a top, and how many steps it has. They do close it.
-fn leaf_size(
-    rt: &impl Abort,
+/// Whether this is so of a leaf.
+fn tells(leaf: &Leaf, asked: &Asked) -> bool {
+    match *asked {
+        Asked::Leaf(_, goal) => leaf.goal == goal,
+        Asked::Steps(_, most) => leaf.steps.as_slice().len() <= most,
+        Asked::Late(_, m, r) => ends_late(leaf, m, r),
+        Asked::PathBound(_) | Asked::Closes(_, _) => false,
+    }
+}
+
+/// Whether this is so of the leaf that closes a choice up to a top.
+fn leaf_tells(
     alloc: Global,
     i: &Instance,
     choice: &Choice,
     top: u32,
-) -> Result<(u32, usize), MemoryFault>
-    requires { IsChoice i.now choice.now }
-{
-    let mut agenda = Agenda::of(alloc, i)?;
-    let leaf = best_goal(alloc, &mut agenda, i, choice, top)?;
-    assert!(rt; replays(alloc, i, choice, &leaf)?);
-    Ok((leaf.goal, leaf.steps.as_slice().len()))
-}
-
-/// Whether the leaf that closes a choice up to a goal has fewer steps than propagation takes at it.
-fn has_fewer(
-    rt: &impl Abort,
-    alloc: Global,
-    i: &Instance,
-    choice: &Choice,
-    goal: u32,
-) -> Result<bool, MemoryFault>
-    requires { IsChoice i.now choice.now }
-{
-    let (_goal, steps) = leaf_size(rt, alloc, i, choice, goal)?;
-    match closed_at(alloc, i, choice, goal)? {
-        Some((all, _late)) => Ok(steps < all),
-        None => Ok(false),
-    }
-}
-
-/// Whether this is answered.
-fn holds(
-    rt: &impl Abort,
-    alloc: Global,
-    i: &Instance,
-    choice: &Choice,
     asked: &Asked,
 ) -> Result<bool, MemoryFault>
     requires { IsChoice i.now choice.now }
 {
+    let mut agenda = Agenda::of(alloc, i)?;
+    let leaf = best_goal(alloc, &mut agenda, i, choice, top)?;
+    Ok(tells(&leaf, asked))
+}
+
+/// Whether this is answered.
+fn holds(alloc: Global, i: &Instance, choice: &Choice, asked: &Asked) -> Result<bool, MemoryFault>
+    requires { IsChoice i.now choice.now }
+{
     match *asked {
         Asked::PathBound(bound) => Ok(path_bound(alloc, i)? == bound),
-        Asked::Closes(goal, closes) => Ok(closed_at(alloc, i, choice, goal)?.is_some() == closes),
-        Asked::Late(goal, m, r) => match closed_at(alloc, i, choice, goal)? {
-            Some((_count, late)) => Ok(late == Some((m, r))),
-            None => Ok(false),
-        },
-        Asked::Leaf(top, goal) => Ok(leaf_size(rt, alloc, i, choice, top)?.0 == goal),
-        Asked::Steps(top, most) => Ok(leaf_size(rt, alloc, i, choice, top)?.1 <= most),
-        Asked::Fewer(goal) => has_fewer(rt, alloc, i, choice, goal),
+        Asked::Closes(goal, closed) => Ok(closes(alloc, i, choice, goal)? == closed),
+        Asked::Leaf(top, _) | Asked::Steps(top, _) | Asked::Late(top, _, _) => {
+            leaf_tells(alloc, i, choice, top, asked)
+        }
     }
 }
 
 /// Decisions, and what their choice is asked.
-pub struct Row {
+struct Row {
     label: &'static str,
     small: Small,
     decisions: &'static [Decision],
@@ -154,18 +108,22 @@ fn expect_all(
     requires { IsChoice i.now choice.now }
 {
     for (k, asked) in row.asked.iter().enumerate() {
-        let holds = holds(rt, alloc, i, choice, asked)?;
+        let holds = holds(alloc, i, choice, asked)?;
         assert!(rt; holds, "{}: question {k}", row.label);
     }
     Ok(())
 }
 
+/// Checks what is answered of the choice of a row on its instance.
+fn expect_on(rt: &impl Abort, alloc: Global, i: &Instance, row: &Row) -> Result<(), MemoryFault> {
+    let choice = chosen(rt, alloc, i, row.decisions)?;
+    expect_all(rt, alloc, i, &choice, row)
+}
+
 /// Checks what is answered of the choice of a row.
-pub fn expect(rt: &impl Abort, alloc: Global, row: &Row) -> Result<(), Fail> {
+fn expect(rt: &impl Abort, alloc: Global, row: &Row) -> Result<(), Fail> {
     let i = row.small.build(alloc)?;
-    let choice = chosen(rt, alloc, &i, row.decisions)?;
-    expect_all(rt, alloc, &i, &choice, row)?;
-    Ok(())
+    Ok(expect_on(rt, alloc, &i, row)?)
 }
 
 /// A cluster with the greatest horizon.
@@ -175,7 +133,7 @@ const FAR: Cluster = Cluster {
 };
 
 /// The bounds of one message.
-pub static ONE_MESSAGE: &[Row] = &[
+static ONE_MESSAGE: &[Row] = &[
     Row {
         label: "worked path bounds: one message",
         small: Small::OneMessage(PLAIN),
@@ -205,13 +163,6 @@ pub static ONE_MESSAGE: &[Row] = &[
         small: Small::OneMessage(PLAIN),
         decisions: &[],
         asked: &[Asked::Leaf(101, 9), Asked::Steps(101, 4), Asked::Leaf(5, 5)],
-    },
-    // Trimming keeps the goal.
-    Row {
-        label: "leaves are without the steps that their closers do not need",
-        small: Small::OneMessage(PLAIN),
-        decisions: &[],
-        asked: &[Asked::Fewer(9)],
     },
 ];
 
@@ -325,15 +276,22 @@ static ROWS: &[Row] = &[
     },
 ];
 
-#[test]
-fn bounds_rows(rt: HostRuntime) -> Result<(), Fail> {
-    for rows in &[ONE_MESSAGE, ROWS] {
-        for row in *rows {
-            expect(&rt, rt.alloc(), row)?;
-        }
-    }
-    for row in loads::ROWS {
-        loads::expect(&rt, rt.alloc(), row)?;
+/// Checks these rows.
+fn expect_rows(rt: &impl Abort, alloc: Global, rows: &[Row]) -> Result<(), Fail> {
+    for row in rows {
+        expect(rt, alloc, row)?;
     }
     Ok(())
+}
+
+/// Checks the bounds of one message.
+pub fn expect_one_message(rt: &impl Abort, alloc: Global) -> Result<(), Fail> {
+    expect_rows(rt, alloc, ONE_MESSAGE)
+}
+
+#[test]
+fn bounds_rows(rt: HostRuntime) -> Result<(), Fail> {
+    expect_one_message(&rt, rt.alloc())?;
+    expect_rows(&rt, rt.alloc(), ROWS)?;
+    loads::expect_rows(&rt, rt.alloc())
 }

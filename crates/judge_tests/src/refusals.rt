@@ -1,9 +1,9 @@
 //! Calls in which memory is refused: the test is run with each allocation refused in turn. Where none is, it passes by the known
 //! answers alone; where one is, it ends with that.
 
-use crate::choices::{BRANCHES, expect_branch};
+use crate::choices::expect_branches;
+use crate::decisions::decide;
 use crate::instances::Small;
-use crate::propagation::trail::decide;
 use crate::{complete_choices, instances, propagation};
 use path_bounds::Propagator;
 use std::alloc::Global;
@@ -35,12 +35,6 @@ fn expect_there_and_back(
     Ok(())
 }
 
-/// Checks the calls of a propagator that decide and take back.
-fn expect_decided(rt: &impl Abort, alloc: Global, i: &Instance) -> Result<(), MemoryFault> {
-    let mut propagator = Propagator::start(alloc, i, 10)?;
-    expect_there_and_back(rt, alloc, &mut propagator)
-}
-
 /// Where the second of three processes goes before the first, that one starts at tick 2, and the third, which a link orders,
 /// behind it at tick 5.
 fn expect_supposed(
@@ -57,18 +51,42 @@ fn expect_supposed(
     Ok(())
 }
 
-/// Checks the calls of a propagator that suppose.
-fn expect_supposing(rt: &impl Abort, alloc: Global, i: &Instance) -> Result<(), MemoryFault> {
-    let mut propagator = Propagator::start(alloc, i, 40)?;
-    expect_supposed(rt, alloc, &mut propagator)
+/// Calls of a propagator.
+#[derive(Clone, Copy)]
+enum Calls {
+    /// Those that decide and take back.
+    Deciding,
+    /// Those that suppose.
+    Supposing,
+}
+
+/// Checks these calls of a propagator that begins below a goal.
+fn expect_calls(
+    rt: &impl Abort,
+    alloc: Global,
+    i: &Instance,
+    goal: u32,
+    calls: Calls,
+) -> Result<(), MemoryFault> {
+    let mut propagator = Propagator::start(alloc, i, goal)?;
+    match calls {
+        Calls::Deciding => expect_there_and_back(rt, alloc, &mut propagator),
+        Calls::Supposing => expect_supposed(rt, alloc, &mut propagator),
+    }
 }
 
 static THREE_LENGTHS: Small = Small::Of(instances::THREE_LENGTHS);
 
 /// Checks all calls of a propagator.
 fn expect_propagators(rt: &impl Abort, alloc: Global) -> Result<(), Fail> {
-    expect_decided(rt, alloc, &one_message(alloc, PLAIN)?)?;
-    expect_supposing(rt, alloc, &THREE_LENGTHS.build(alloc)?)?;
+    expect_calls(rt, alloc, &one_message(alloc, PLAIN)?, 10, Calls::Deciding)?;
+    expect_calls(
+        rt,
+        alloc,
+        &THREE_LENGTHS.build(alloc)?,
+        40,
+        Calls::Supposing,
+    )?;
     Ok(())
 }
 
@@ -76,14 +94,8 @@ fn expect_propagators(rt: &impl Abort, alloc: Global) -> Result<(), Fail> {
 /// then `path_bound`, `Facts::new`, `propagate` and `best_goal`; and then those of a `Propagator`.
 #[test]
 fn refused_in_turn(rt: HostRuntime) -> Result<(), Fail> {
-    for branch in BRANCHES {
-        expect_branch(&rt, rt.alloc(), branch)?;
-    }
-    for row in complete_choices::ROWS {
-        complete_choices::expect(&rt, rt.alloc(), row)?;
-    }
-    for row in propagation::ONE_MESSAGE {
-        propagation::expect(&rt, rt.alloc(), row)?;
-    }
+    expect_branches(&rt, rt.alloc())?;
+    complete_choices::expect_rows(&rt, rt.alloc())?;
+    propagation::expect_one_message(&rt, rt.alloc())?;
     expect_propagators(&rt, rt.alloc())
 }

@@ -18,7 +18,7 @@ const LONG: Cluster = Cluster {
 };
 
 /// A valid plan, its delay, and the plan that it settles to.
-pub struct Row {
+struct Row {
     label: &'static str,
     small: Small,
     from: Lists<'static>,
@@ -38,13 +38,12 @@ fn expect_on(rt: &impl Abort, alloc: Global, i: &Instance, row: &Row) -> Result<
 }
 
 /// Checks a row on its instance.
-pub fn expect(rt: &impl Abort, alloc: Global, row: &Row) -> Result<(), Fail> {
+fn expect(rt: &impl Abort, alloc: Global, row: &Row) -> Result<(), Fail> {
     let i = row.small.build(alloc)?;
     Ok(expect_on(rt, alloc, &i, row)?)
 }
 
-/// `dominance_rows` checks these.
-pub static ROWS: &[Row] = &[
+static ROWS: &[Row] = &[
     Row {
         label: "three alike start in their order",
         small: Small::ThreeAlike,
@@ -69,7 +68,7 @@ pub static ROWS: &[Row] = &[
 ];
 
 /// Plans with turned frames, of which the first message that is on one channel alone is on channel 1.
-pub static TURNED: &[Row] = &[
+static TURNED: &[Row] = &[
     Row {
         label: "the first message of a frame goes on channel 0",
         small: Small::TwoChannels(false),
@@ -169,3 +168,17 @@ pub static TURNED: &[Row] = &[
         to: [&[1, 2, 0], &[2, 3, 0], &[0, 8], &[0], &[0]],
     },
 ];
+
+/// Checks these rows.
+fn expect_rows(rt: &impl Abort, alloc: Global, rows: &[Row]) -> Result<(), Fail> {
+    for row in rows {
+        expect(rt, alloc, row)?;
+    }
+    Ok(())
+}
+
+#[test]
+fn dominance_rows(rt: HostRuntime) -> Result<(), Fail> {
+    expect_rows(&rt, rt.alloc(), ROWS)?;
+    expect_rows(&rt, rt.alloc(), TURNED)
+}

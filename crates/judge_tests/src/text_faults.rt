@@ -1,6 +1,5 @@
 //! How is a fault of a text told?
 
-use crate::outcomes::same;
 use instance_text::{Key, Place, TextError};
 use std::alloc::{AllocError, Global};
 use std::process::Abort;
@@ -15,7 +14,7 @@ fn is_told(
     words: &str,
 ) -> Result<(), AllocError> {
     let told = error.to_string(alloc)?;
-    same(rt, "a fault", told.as_str(), words);
+    assert!(rt; told.as_str() == words, "{words}");
     Ok(())
 }
 

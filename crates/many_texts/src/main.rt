@@ -304,9 +304,14 @@ fn end_of<W: Write>(
             &mut Reasons::unasked(),
             out,
         ),
-        Command::ExplainCertificate => {
-            explain_certificate(rt, alloc, &mut first, &mut second, out)
-        }
+        Command::ExplainCertificate => explain_certificate(
+            rt,
+            alloc,
+            &mut first,
+            &mut second,
+            &mut Reasons::unasked(),
+            out,
+        ),
         Command::Compare => compared_of(alloc, case, out),
     }
 }

@@ -1,5 +1,5 @@
 -- An instance without a plan is cut by the number of ticks that all may end later; what is told of the least one.
-use Rattle.std.proofs.Common.{◌≡◌, ℕ, arith}
+use Rattle.std.proofs.Common.{◌≡◌, ℕ, Option, arith}
 use Rattle.ttp_model.specs.declared.plan.Plan.{Plan}
 use Rattle.ttp_model.specs.Limits.{most_ticks}
 use Rattle.ttp_model.specs.Instance.{Instance}
@@ -33,8 +33,9 @@ module _ (i : Instance) where
   }
 
   module _ (options : Options) where
-    pub late_exact : (x : ℕ) (plan : Plan) → IsExact (late_cutting i) x plan → IsLeastLateness i x × IsValid (later i x) plan
-    late_exact x plan is = (record { plan = plan; valid = is.plan_at.valid; none_before = is.lower }, is.plan_at.valid)
+    pub late_exact : (x : ℕ) (plan : Plan) (below : Option Cert) → IsExact (late_cutting i) options x plan below
+        → IsLeastLateness i x × IsValid (later i x) plan
+    late_exact x plan below is = (record { plan = plan; valid = is.plan_at.valid; none_before = is.lower }, is.plan_at.valid)
 
     pub late_apart : (low high : ℕ) (plan : Plan) (cert : Cert) → IsApart (late_cutting i) options low high plan cert → IsBetween i options low high plan
     late_apart low high plan cert is = record {

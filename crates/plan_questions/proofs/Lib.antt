@@ -1,8 +1,10 @@
 pub mod Halves
 pub mod LateCuts
+pub mod MarginCuts
 mod Bounds
 pub mod Shortest
 pub mod Texts
-pub mod Halved
+pub mod Narrowed
+pub mod Decided
 pub mod Told
 pub use Rattle.planner.proofs.AnswerVersions

@@ -15,12 +15,11 @@ use Rattle.instance_variants.specs.declared.kept.constraints.Constraints.{Constr
 use Rattle.instance_variants.specs.Constraints.{all_of, keeps, listed}
 use Rattle.instance_variants.specs.Only.{only}
 use Rattle.instance_variants.proofs.KeptLaws.{no_plan_left}
-use Rattle.instance_variants.proofs.Keeps.{kept_among, kept_listed, listed_kept}
+use Rattle.instance_variants.proofs.Keeps.{listed_kept}
 use Rattle.instance_variants.proofs.Whole.{all_is_whole}
-use Rattle.plan_questions.specs.declared.conflicts.conflict.Need.{Need}
-use Rattle.plan_questions.specs.declared.conflicts.halving.Halving.{Halving}
-use Rattle.plan_questions.specs.Conflicts.{IsConflict, IsNeeded, IsTold}
-use Rattle.plan_questions.specs.LeavingOut.{IsMarked, IsDecided, Decides}
+use Rattle.plan_questions.specs.declared.conflicts.conflict.Conflict.{Conflict}
+use Rattle.plan_questions.specs.declared.conflicts.needs.Need.{Need}
+use Rattle.plan_questions.specs.Conflicts.{AreMarked, IsConflict, IsDecided, IsMarked, IsNarrowing, IsNeeded, IsTold}
 
 all_before_map : {X Y : Type 0} (P : Y → Type 0) (f : X → Y) (xs : List X) → All P (map f xs) → All (λ x. P (f x)) xs
 all_before_map P f xs each = λ k past below.
@@ -28,27 +27,31 @@ all_before_map P f xs each = λ k past below.
     subst P (get_or-map f xs k past (f past) below) (each k (f past) inside)
 
 told_one : (i : Instance) (options : Options) (K : Constraints) (needed : List Constraint) (shown : Bool) (c : Constraint) → IsTrue shown ↔ Contains needed c →
-    All (IsNeeded i K) needed → IsTrue (keeps K c) → IsDecided i options K needed c → IsTold i options K shown c
-told_one i options K needed true c marked each kept decided = All-contains (IsNeeded i K) needed c each (marked.0 refl)
-told_one i options K needed false c marked each kept decided = elim (decided kept) [
-  | inl there ↦ absurd (true≢false (sym (marked.1 there)))
-  | inr still ↦ still
+    All (IsNeeded i K) needed → IsDecided i options K needed c → IsTold i options K shown c
+told_one i options K needed true c marked each decided = All-contains (IsNeeded i K) needed c each (marked.0 refl)
+told_one i options K needed false c marked each (inl there) = absurd (true≢false (sym (marked.1 there)))
+told_one i options K needed false c marked each (inr still) = still
+
+-- what is kept is decided, where nothing is still to be
+all_decided : (i : Instance) (options : Options) (conflict : Conflict) → IsNarrowing i options conflict → conflict.pending.items ≡ [] → (c : Constraint)
+    → IsTrue (keeps conflict.kept c) → IsDecided i options conflict.kept conflict.needed.items c
+all_decided i options conflict h none c is = elim (h.decided c is) [
+  | inl waits ↦ absurd (omega (arith, (rw none at waits).1))
+  | inr done ↦ done
 ]
 
-pub conflict_told : (i : Instance) (options : Options) (old new : Halving) (needs : List Need) → Decides i options old (listed old.kept) new →
-    map (λ (need : Need). need.constraint) needs ≡ listed new.kept → All (IsMarked new.needed.items) needs → IsConflict i options needs new.kept new.cert
-conflict_told i options old new needs done all marked = record {
-  fewer = done.halving.fewer;
-  shown = done.halving.shown;
+pub needs_marked : (i : Instance) (options : Options) (conflict : Conflict) (needs : List Need) → IsNarrowing i options conflict → conflict.pending.items ≡ [] →
+    map (λ (need : Need). need.constraint) needs ≡ listed conflict.kept → All (IsMarked conflict.needed.items) needs
+    → AreMarked i options conflict.kept conflict.needed.items needs
+needs_marked i options conflict needs h none all marked = record {
   all = all;
   told = λ k past below.
       let need : Need = slice_index_or needs k past in
-      let c : Constraint = need.constraint in
-      let P : Constraint → Type 0 = λ one. keeps new.kept one ≡ true in
-      let kept = all_before_map P (λ (one : Need). one.constraint) needs (rw all (listed_kept new.kept)) k past below in
-      let there = kept_listed old.kept c (kept_among new.kept old.kept c done.fewer kept) in
-      let decided = All-contains (IsDecided i options new.kept new.needed.items) (listed old.kept) c done.decided there in
-      told_one i options new.kept new.needed.items need.is_shown c (marked k past below) done.halving.needed kept decided;
+      let P : Constraint → Type 0 = λ one. keeps conflict.kept one ≡ true in
+      let kept = all_before_map P (λ (one : Need). one.constraint) needs (rw all (listed_kept conflict.kept)) k past below in
+      told_one i options conflict.kept conflict.needed.items need.is_shown need.constraint (marked k past below) h.known.needed
+      (all_decided i options conflict h none need.constraint kept);
+  marked = marked;
 }
 
 -- an instance by all its constraints is the instance
@@ -56,8 +59,8 @@ pub whole_told : (i : Instance) (options : Options) (K : Constraints) (sought : 
     Tells (only i K) options sought → Tells i options sought
 whole_told i options K sought good is tells = subst (λ j. Tells j options sought) (rw is (all_is_whole i good)) tells
 
-pub conflict_shows : (i : Instance) (options : Options) (needs : List Need) (K : Constraints) (cert : Cert) → IsInstance i → IsConflict i options needs K cert → HasNoPlan i
-conflict_shows i options needs K cert good c = no_plan_left i K good c.shown.none
+pub conflict_shows : (i : Instance) (options : Options) (K : Constraints) (cert : Cert) (needed : List Constraint) → IsInstance i → IsConflict i options K cert needed → HasNoPlan i
+conflict_shows i options K cert needed good c = no_plan_left i K good c.shown.none
 
 -- what is told of one constraint more
 pub one_more_told : (needs : List Need) (need : Need) (list : List Constraint) (k : ℕ) (past : Constraint) → map (λ (one : Need). one.constraint) needs ≡ take k list →

@@ -13,6 +13,7 @@ use Rattle.planner.specs.outcome.Why.{Why}
 use Rattle.planner.specs.Answers.{IsOutcome}
 use Rattle.plan_questions.specs.Searches.{IsLeftOpen, IsShown}
 use Rattle.plan_questions.specs.Cuts.{Cutting, middle}
+use Rattle.ttp_model.specs.Limits.{most_ticks}
 use Rattle.instance_variants.specs.Cut.{cut}
 use Rattle.instance_variants.specs.Ends.{last_end, IsLeastDelayBy, IsLeastEnd, IsLowerEnd}
 use Rattle.plan_questions.specs.declared.limits.limit.EndLimit.{EndLimit}
@@ -59,7 +60,7 @@ IsNoLonger ticks (Some best) = ticks ≤ best.delay
 
 -- the instance in which these processes have to end by a tick, plans by when they do, and a tick that they can't end before
 abbrev pub end_cutting : Instance → List ℕ → ℕ → Cutting
-end_cutting i ps low = record { at = cut i ps; measure = λ plan. last_end i plan ps; least = low }
+end_cutting i ps low = record { at = cut i ps; measure = λ plan. last_end i plan ps; least = low; most = most_ticks }
 
 -- The least end, and a plan that does it, of the least delay among those: so said a search with these deadlines cut to that end.
 pub record IsLeast (i : Instance) (ps : List ℕ) (options : Options) (end : ℕ) (plan : Plan) (cert : Cert) : Type 0 where

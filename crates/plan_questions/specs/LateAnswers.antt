@@ -15,7 +15,7 @@ use Rattle.plan_questions.specs.declared.late.answer.Lateness.TheVariants.{Least
 
 -- the instance with all ends some ticks later, plans by how much they are late, and 1, since as it is it has none
 abbrev pub late_cutting : Instance → Cutting
-late_cutting i = record { at = later i; measure = lateness i; least = 1 }
+late_cutting i = record { at = later i; measure = lateness i; least = 1; most = most_ticks }
 
 -- there is no plan where all ends are fewer ticks later
 abbrev pub IsNoneBelow : Instance → ℕ → Type 0

@@ -3,9 +3,12 @@ pub mod Cuts
 pub mod Halving
 pub mod EndAnswers
 pub mod LateAnswers
+pub mod MarginAnswers
 pub mod Conflicts
-pub mod LeavingOut
+pub mod Leaving
 pub use Rattle.planner.specs.Answers
 pub use Rattle.planner.specs.outcome
 pub use Rattle.instance_variants.specs.Cut
 pub use Rattle.instance_variants.specs.Ends
+pub use Rattle.instance_variants.specs.Longer
+pub use Rattle.instance_variants.specs.Within

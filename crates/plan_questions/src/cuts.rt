@@ -17,7 +17,7 @@ use std::alloc::Global;
 use std::marker::Sync;
 use std::sync::Wait;
 use std::thread::Threads;
-use ttp_model::{Instance, MOST_TICKS, MemoryFault, Plan};
+use ttp_model::{Instance, MemoryFault, Plan};
 
 /// An instance that is cut by a number: with a greater one it has more plans.
 pub trait Cut {
@@ -30,6 +30,10 @@ pub trait Cut {
     /// A number that no plan is below.
     fn least(&self) -> u32
         ensures { result ≡ (cutting self.now).least };
+
+    /// The greatest number that is asked for: with it there is a plan, if there is one with any.
+    fn most(&self) -> u32
+        ensures { result ≡ (cutting self.now).most };
 
     /// The instance with a number.
     fn instance_at(&self, alloc: Global, number: u32) -> Result<Instance, MemoryFault>
@@ -47,10 +51,11 @@ pub trait Cut {
 /// The least number with which there is a plan.
 #[derive(Drop)]
 pub enum LeastNumber {
-    /// It is `number`, as this plan shows.
+    /// It is `number`, as this plan shows; that it isn't one less shows the certificate, where a search had to tell.
     Exact {
         number: u32,
         plan: Plan,
+        below: Option<Cert>,
     },
     /// Not below `low`; with `high` there is this plan. A search half way was stopped, with this certificate.
     Apart {
@@ -59,11 +64,11 @@ pub enum LeastNumber {
         plan: Plan,
         cert: Cert,
     },
-    /// No plan is known: the search with `MOST_TICKS` was stopped.
+    /// No plan is known: the search with the greatest number was stopped.
     Open {
         cert: Cert,
     },
-    /// There is none with `MOST_TICKS`.
+    /// There is none with the greatest number.
     Never {
         cert: Cert,
     },
@@ -74,6 +79,8 @@ pub enum LeastNumber {
 pub struct Known {
     /// With fewer there is no plan.
     pub low: u32,
+    /// What shows that there is none with one less, where a search had to tell.
+    pub below: Option<Cert>,
     /// With this there is this one.
     pub high: u32,
     pub plan: Plan,
@@ -110,9 +117,9 @@ fn narrow<C: Cut, R: Threads + Wait + Sync, G: Gate + Sync>(
 ) -> Result<Option<Cert>, SolveFault>
     requires sound { C.is_sound cut.now }
     requires cutting { IsCutting (C.cutting cut.now) }
-    requires known { IsKnown (C.cutting cut.now) known.old }
+    requires known { IsKnown (C.cutting cut.now) asking.now.options known.old }
     requires apart { known.old.low < known.old.high }
-    ensures known { IsKnown (C.cutting cut.now) known.new }
+    ensures known { IsKnown (C.cutting cut.now) asking.now.options known.new }
     ensures closer { IfOk result (λ stopped. MatchOption stopped
         (known.new.high - known.new.low < known.old.high - known.old.low)
         (IsOpenAt (C.cutting cut.now) asking.now.options known.new)) }
@@ -124,8 +131,9 @@ fn narrow<C: Cut, R: Threads + Wait + Sync, G: Gate + Sync>(
             known.plan = plan;
             Ok(None)
         }
-        Sought::Absent { .. } => {
+        Sought::Absent { cert } => {
             known.low = number + 1;
+            known.below = Some(cert);
             Ok(None)
         }
         Sought::Open { cert } => Ok(Some(cert)),
@@ -141,8 +149,8 @@ fn halve<C: Cut, R: Threads + Wait + Sync, G: Gate + Sync>(
 ) -> Result<Option<Cert>, SolveFault>
     requires sound { C.is_sound cut.now }
     requires cutting { IsCutting (C.cutting cut.now) }
-    requires known { IsKnown (C.cutting cut.now) known.old }
-    ensures known { IsKnown (C.cutting cut.now) known.new }
+    requires known { IsKnown (C.cutting cut.now) asking.now.options known.old }
+    ensures known { IsKnown (C.cutting cut.now) asking.now.options known.new }
     ensures end { IfOk result (λ stopped. MatchOption stopped
         (known.new.low ≡ known.new.high)
         (IsOpenAt (C.cutting cut.now) asking.now.options known.new)) }
@@ -165,12 +173,17 @@ fn least_below<C: Cut, R: Threads + Wait + Sync, G: Gate + Sync>(
 ) -> Result<LeastNumber, SolveFault>
     requires sound { C.is_sound cut.now }
     requires cutting { IsCutting (C.cutting cut.now) }
-    requires known { IsKnown (C.cutting cut.now) known }
+    requires known { IsKnown (C.cutting cut.now) asking.now.options known }
     ensures { IfOk result (IsLeastNumber (C.cutting cut.now) asking.now.options) }
 {
     let mut known = known;
     let stopped = halve(rt, asking, cut, &mut known)?;
-    let Known { low, high, plan } = known;
+    let Known {
+        low,
+        below,
+        high,
+        plan,
+    } = known;
     match stopped {
         Some(cert) => Ok(LeastNumber::Apart {
             low,
@@ -178,7 +191,11 @@ fn least_below<C: Cut, R: Threads + Wait + Sync, G: Gate + Sync>(
             plan,
             cert,
         }),
-        None => Ok(LeastNumber::Exact { number: high, plan }),
+        None => Ok(LeastNumber::Exact {
+            number: high,
+            plan,
+            below,
+        }),
     }
 }
 
@@ -194,11 +211,23 @@ pub fn least_number<C: Cut, R: Threads + Wait + Sync, G: Gate + Sync>(
     requires cutting { IsCutting (C.cutting cut.now) }
     ensures { IfOk result (IsLeastNumber (C.cutting cut.now) asking.now.options) }
 {
-    match any_at(rt, asking, cut, MOST_TICKS)? {
+    let most = cut.most();
+    match any_at(rt, asking, cut, most)? {
         Sought::Found { plan, .. } => {
             let low = cut.least();
-            let high = cut.measured(&plan, MOST_TICKS);
-            least_below(rt, asking, cut, Known { low, high, plan })
+            let high = cut.measured(&plan, most);
+            let below = None;
+            least_below(
+                rt,
+                asking,
+                cut,
+                Known {
+                    low,
+                    below,
+                    high,
+                    plan,
+                },
+            )
         }
         Sought::Absent { cert } => Ok(LeastNumber::Never { cert }),
         Sought::Open { cert } => Ok(LeastNumber::Open { cert }),

@@ -1,3 +1,6 @@
 pub mod Told
+mod Lines
 mod Naming
-mod Telling
+mod LimitAnswers
+mod Meaning
+mod MarginAnswers

@@ -11,7 +11,6 @@ use Rattle.plan_questions.specs.outcome.Options.{Options}
 use Rattle.plan_questions.specs.declared.limits.limit.EndLimit.{EndLimit}
 use Rattle.plan_questions.specs.declared.limits.limit.EndLimit.TheVariants.{Least, Reached, Between, Unknown, Infeasible}
 use Rattle.plan_questions.specs.EndAnswers.{cert_of, searched, IsEndLimit}
-use Rattle.certificate.specs.Spelling.{SpellsCert}
 use Rattle.command_streams.specs.declared.ending.Source.TheVariants as source
 use Rattle.command_streams.specs.declared.ending.Fault.{Fault}
 use Rattle.command_streams.specs.declared.ending.Fault.TheVariants.{InstanceText, Memory, NoSuchProcess, Search, TooLong, Unread}
@@ -23,6 +22,7 @@ use Rattle.command_streams.specs.declared.texts.Texts.{Texts}
 use Rattle.command_streams.specs.Writing.{IsNothing, IsTextOf, IsWritingOf}
 use Rattle.question_commands.specs.declared.limit_texts.Beside.{Beside}
 use Rattle.question_commands.specs.declared.limits.Limited.{Limited}
+use Rattle.question_commands.specs.Answers.{IsCertificateText}
 use Rattle.question_commands.specs.Names.{AreNamed, IsNameFault}
 
 -- the plan of an answer, where it has one
@@ -67,19 +67,14 @@ abbrev pub HasValidPlan : Instance → Option Plan → Type 0
 HasValidPlan i None = Unit {0}
 HasValidPlan i (Some plan) = IsValid i plan
 
--- what is written to the certificate's file: the certificate of the last search
-abbrev pub IsCertificateText : Bool → EndLimit → List ℕ → Type 0
-IsCertificateText true limit text = SpellsCert text (cert_of limit)
-IsCertificateText false limit text = text ≡ []
-
 -- what is written to the other file: a text that states the instance of that search, where the one that was made reads back as it
 abbrev pub IsSearchedText : Bool → Instance → List ℕ → EndLimit → Option (Vec ℕ) → Type 0
 IsSearchedText true i ps limit text = IsTextOf (searched i ps limit) text
 IsSearchedText false i ps limit text = IsNothing text
 
--- the texts that tell an answer to how early these processes can end
+-- the texts that tell an answer to how early these processes can end; the certificate is that of the last search
 pub record AreTextsOf (beside : Beside) (i : Instance) (ps : List ℕ) (limit : EndLimit) (texts : Texts) : Type 0 where
-  pub certificate : IsCertificateText beside.certificate limit texts.certificate.items
+  pub certificate : IsCertificateText beside.certificate (cert_of limit) texts.certificate.items
   pub reduced : IsSearchedText beside.reduced i ps limit texts.reduced
   pub answer : IsLimitText i limit texts.answer.items
 

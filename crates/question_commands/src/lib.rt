@@ -1,16 +1,23 @@
-//! The commands that ask several searches: why an instance has no plan, and how early processes can end.
+//! The commands that ask several searches: why an instance has no plan, how early processes can end, and how much longer they may run.
 #![tactic(auto)]
 
 mod answer;
+mod certificates;
 mod limit_texts;
 mod limits;
+mod margin_answer;
+mod margin_texts;
+mod margins;
+mod meant;
 mod names;
+mod telling;
 mod why;
 mod why_texts;
 mod words;
 
 pub use limit_texts::Beside;
 pub use limits::limit_run;
-pub use plan_questions::{Asking, Gate, Options};
+pub use margins::{Terms, margin_run};
+pub use plan_questions::{Asking, Gate, Options, Scale};
 pub use why::why_run;
 pub use why_texts::Wanted;

@@ -5,9 +5,10 @@ ghost use Rattle.certificate.specs.Versions.{Allows};
 ghost use Rattle.plan_questions.specs.EndAnswers.{cert_of, cut_to, tick_of};
 ghost use Rattle.plan_questions.specs.Cut.{CanEndBy};
 ghost use Rattle.command_streams.specs.Writing.{IsTextOf};
-ghost use Rattle.question_commands.specs.Limited.{AreTextsOf, HasValidPlan, IsCertificateText, IsSearchedText, plan_of};
+ghost use Rattle.question_commands.specs.Limited.{AreTextsOf, HasValidPlan, IsSearchedText, plan_of};
 
 use crate::answer::answer_text;
+use crate::certificates::certificate_text;
 use command_streams::{Texts, instance_text};
 use plan_questions::{EndLimit, cert_of, tick_of, with_deadlines};
 use std::alloc::Global;
@@ -19,18 +20,6 @@ pub struct Beside {
     pub certificate: bool,
     /// The instance that the certificate is for.
     pub reduced: bool,
-}
-
-/// The text of the certificate of the last search.
-fn certificate_text(alloc: Global, limit: &EndLimit, wanted: bool) -> Result<Vec<u8>, MemoryFault>
-    requires { Allows (cert_of limit.now).version (cert_of limit.now).tree }
-    ensures { IfOk result (λ text. IsCertificateText wanted limit.now text.items) }
-{
-    if wanted {
-        certificate::print(alloc, cert_of(limit))
-    } else {
-        Ok(Vec::new(alloc))
-    }
 }
 
 /// The text of the instance in which these processes have to end by a tick, where there is one; none where no text of it reads back.
@@ -83,7 +72,7 @@ pub fn texts_of(
     requires valid { HasValidPlan instance.now (plan_of limit.now) }
     ensures { IfOk result (AreTextsOf beside instance.now processes.now limit.now) }
 {
-    let certificate = certificate_text(alloc, limit, beside.certificate)?;
+    let certificate = certificate_text(alloc, cert_of(limit), beside.certificate)?;
     let reduced = searched_text(alloc, instance, processes, limit, beside.reduced)?;
     let answer = answer_text(alloc, instance, limit)?;
     Ok(Texts {

@@ -28,7 +28,7 @@ pub struct Limited {
 }
 
 /// How early these processes can end, and the texts that tell it.
-#[tactic(auto, using(crate::proofs::Telling::plan_valid, crate::proofs::Telling::printable, crate::proofs::Telling::can_end))]
+#[tactic(auto, using(crate::proofs::LimitAnswers::plan_valid, crate::proofs::LimitAnswers::printable, crate::proofs::LimitAnswers::can_end))]
 fn limit_by<R: Threads + Wait + Sync, G: Gate + Sync>(
     rt: &R,
     asking: &Asking<'_, G>,

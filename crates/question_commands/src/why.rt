@@ -1,147 +1,151 @@
 //! What does `why` say of an instance, and what does it write?
 
-ghost use Rattle.std.specs.Prelude.{◌≡◌, ◌+◌, IfOk, IfSome, MatchResult};
-ghost use Rattle.plan_questions.specs.Conflicts.{Answers};
+ghost use Rattle.std.specs.Prelude.{◌+◌, IfErr, IfSome, MatchResult, OnOk};
+ghost use Rattle.std.specs.Io.KnownBytes.{Appends};
+ghost use Rattle.certificate.specs.Versions.{Allows};
+ghost use Rattle.plan_questions.specs.Conflicts.{IsBegun};
 ghost use Rattle.command_streams.specs.declared.limits.TheConstants.{INSTANCE_LIMIT};
 ghost use Rattle.command_streams.specs.Streams.{TakesAtMost};
-ghost use Rattle.command_streams.specs.Writing.{IsToldAt, IsWritingOf};
-ghost use Rattle.question_commands.specs.Answers.{IsExplained, IsFound, IsLate, IsSearched, IsUnexplained, IsUnsearched, IsWhyAnswer, end_told};
+ghost use Rattle.question_commands.specs.Answers.{IsWhyAnswer};
+ghost use Rattle.question_commands.specs.Telling.{AreLinesCut, HasTold, IsBrokenOff, IsFinished, IsPrintable, IsUnsaid, IsWrittenBehind};
+ghost use Rattle.question_commands.specs.Words.{plan_text};
 
-use crate::why_texts::{Wanted, texts_of};
-use command_streams::{End, Fault, Texts, read_instance, write_texts};
-use plan_questions::{Asking, Conflict, Gate, Lateness, SolveFault, find_conflict, least_lateness};
+use crate::telling::{say, tell_lines};
+use crate::why_texts::{Wanted, files_of, write_files};
+use crate::words::plan_text;
+use command_streams::{End, Fault, read_instance};
+use plan_questions::{Asking, Conflict, FirstAnswer, Gate, first_answer};
 use search_watching::told_as;
+use std::alloc::Global;
 use std::io::{Read, Write};
 use std::marker::Sync;
 use std::sync::Wait;
 use std::thread::Threads;
 use ttp_model::Instance;
 
-/// An instance, which of its constraints leave no plan, and how many ticks later all has to end where that is asked for, with the texts
-/// that tell it.
+/// What was told of an instance.
 #[derive(Drop)]
-pub struct Found {
-    pub instance: Instance,
-    pub conflict: Conflict,
-    pub late: Option<Lateness>,
-    pub texts: Texts,
+enum Told {
+    /// That there is a plan, or that nothing is known, and the end at which that is told.
+    Plain(End),
+    /// The constraints that are left of these, which leave no plan.
+    Narrowed(Conflict),
 }
 
-/// The end at which it is told.
-fn end_of(conflict: &Conflict) -> End
-    ensures value { result ≡ end_told conflict.now }
-    ensures told { IsToldAt result }
+/// Tells that there is a plan of so many ticks.
+#[tactic(auto, using(command_streams::proofs::Outcomes::keeps))]
+fn tell_plan<W: Write>(alloc: Global, delay: u64, out: &mut W) -> Result<(), Fault>
+    ensures ok { OnOk result (Appends (W.contents out.old) (W.contents out.new) (plan_text delay)) }
+    ensures err { IfErr result (IsUnsaid (plan_text delay) (W.contents out.old) (W.contents out.new)) }
 {
-    match conflict {
-        Conflict::Plan { .. } => End::Done,
-        Conflict::None { .. } => End::Absent,
-        Conflict::Unknown => End::Stopped,
-    }
+    let text = plan_text(alloc, delay)?;
+    say(out, text.as_slice())
 }
 
-/// How many ticks later all has to end, where it is asked for of an instance without a plan.
-fn late_of<R: Threads + Wait + Sync, G: Gate + Sync>(
+/// Tells which of the constraints leave no plan, and hands out what is left of them.
+fn tell_narrowed<R: Threads + Wait + Sync, G: Gate + Sync, W: Write>(
     rt: &R,
     asking: &Asking<'_, G>,
     instance: &Instance,
-    conflict: &Conflict,
-    wanted: bool,
-) -> Result<Option<Lateness>, SolveFault>
-    requires { Answers instance.now asking.now.options conflict.now }
-    ensures { IfOk result (IsLate wanted instance.now asking.now.options conflict.now) }
+    conflict: Conflict,
+    late: bool,
+    out: &mut W,
+) -> Result<Told, Fault>
+    requires { IsBegun instance.now asking.now.options conflict }
+    ensures told { MatchResult result
+        (HasTold instance.now asking.now.options late (W.contents out.old) (W.contents out.new))
+        (AreLinesCut instance.now asking.now.options late (W.contents out.old) (W.contents out.new)) }
+    ensures printable { IsPrintable result }
 {
     let _nodes = instance.nodes();
-    match conflict {
-        Conflict::None { .. } if wanted => { Ok(Some(least_lateness(rt, asking, instance)?)) }
-        Conflict::Plan { .. } | Conflict::None { .. } | Conflict::Unknown => Ok(None),
-    }
+    let mut conflict = conflict;
+    tell_lines(rt, asking, instance, &mut conflict, late, out)?;
+    Ok(Told::Narrowed(conflict))
 }
 
-/// Which constraints of an instance leave no plan, and how many ticks later all has to end where that is asked for.
-fn explained<R: Threads + Wait + Sync, G: Gate + Sync>(
+/// Tells why an instance has no plan, line by line as it is known.
+fn told_of<R: Threads + Wait + Sync, G: Gate + Sync, W: Write>(
     rt: &R,
     asking: &Asking<'_, G>,
     instance: &Instance,
-    wanted: bool,
-) -> Result<(Conflict, Option<Lateness>), SolveFault>
-    ensures { IfOk result (IsExplained wanted instance.now asking.now.options) }
+    late: bool,
+    out: &mut W,
+) -> Result<Told, Fault>
+    ensures told { MatchResult result
+        (HasTold instance.now asking.now.options late (W.contents out.old) (W.contents out.new))
+        (IsBrokenOff instance.now asking.now.options late (W.contents out.old) (W.contents out.new)) }
+    ensures printable { IsPrintable result }
 {
-    let conflict = find_conflict(rt, asking, instance)?;
-    let late = late_of(rt, asking, instance, &conflict, wanted)?;
-    Ok((conflict, late))
-}
-
-/// Looks for constraints of an instance that leave no plan, and makes the texts that tell them.
-#[tactic(auto, using(crate::proofs::Told::are_told, crate::proofs::Told::printable))]
-fn found_of<R: Threads + Wait + Sync, G: Gate + Sync>(
-    rt: &R,
-    asking: &Asking<'_, G>,
-    instance: Instance,
-    wanted: Wanted,
-) -> Result<Found, Fault>
-    ensures { MatchResult result (IsSearched instance asking.now.options wanted) IsUnsearched }
-{
-    let _nodes = instance.nodes();
-    let (conflict, late) = match explained(rt, asking, &instance, wanted.late) {
-        Ok(told) => told,
+    let first = match first_answer(rt, asking, instance) {
+        Ok(first) => first,
         Err(fault) => return Err(Fault::Search(told_as(fault))),
     };
-    match texts_of(asking.alloc, &instance, &conflict, &late, wanted) {
-        Ok(texts) => Ok(Found {
-            instance,
-            conflict,
-            late,
-            texts,
-        }),
-        Err(_) => Err(Fault::Memory),
+    match first {
+        FirstAnswer::Plan { delay, plan } => {
+            drop(plan);
+            tell_plan(asking.alloc, delay, out)?;
+            Ok(Told::Plain(End::Done))
+        }
+        FirstAnswer::None { conflict } => tell_narrowed(rt, asking, instance, conflict, late, out),
+        FirstAnswer::Unknown => {
+            say(out, b"ttwhy 1\nunknown\n")?;
+            Ok(Told::Plain(End::Stopped))
+        }
     }
 }
 
-/// The same of the instance that a reader's bytes state.
-#[tactic(auto, using(crate::proofs::Told::found_of_bytes))]
-fn found_of_reader<R: Threads + Wait + Sync, G: Gate + Sync, I: Read>(
-    rt: &R,
-    asking: &Asking<'_, G>,
-    instance: &mut I,
+/// Writes the files behind the constraints that were told, and ends the command.
+#[tactic(auto, using(crate::proofs::Told::alone))]
+fn write_behind<C: Write, S: Write>(
+    alloc: Global,
+    instance: &Instance,
+    conflict: &Conflict,
     wanted: Wanted,
-) -> Result<Found, Fault>
-    ensures judged { IfSome (I.remaining instance.old) (λ bytes. MatchResult result
-        (IsFound bytes asking.now.options wanted)
-        (IsUnexplained bytes)) }
-    ensures most { TakesAtMost (INSTANCE_LIMIT + 1) (I.remaining instance.old) (I.remaining instance.new) }
-{
-    let instance = read_instance(asking.alloc, instance)?;
-    found_of(rt, asking, instance, wanted)
-}
-
-/// Writes an answer behind what is written beside it.
-fn tell<C: Write, S: Write, W: Write>(
-    found: &Found,
     certificate: &mut C,
     reduced: &mut S,
-    out: &mut W,
 ) -> End
-    ensures { IsWritingOf found.now.texts (end_told found.now.conflict)
-        (C.contents certificate.old) (C.contents certificate.new) (S.contents reduced.old) (S.contents reduced.new)
-        (W.contents out.old) (W.contents out.new) result }
+    requires { Allows conflict.now.cert.version conflict.now.cert.tree }
+    ensures { IsWrittenBehind wanted instance.now conflict.now (C.contents certificate.old) (C.contents certificate.new)
+        (S.contents reduced.old) (S.contents reduced.new) result }
 {
-    write_texts(
-        &found.texts,
-        end_of(&found.conflict),
-        certificate,
-        reduced,
-        out,
-    )
+    match files_of(alloc, instance, conflict, wanted) {
+        Ok(files) => write_files(&files, certificate, reduced),
+        Err(_) => End::Refused(Fault::Memory),
+    }
 }
 
-/// Reads an instance, and writes why it has no plan: the constraints that leave none by themselves, with the word `need` where
-/// there is a plan without one of them, and else with `maybe`, and then the end is `Absent`; the delay of a plan, where there is
-/// one; or that neither is known, and then the end is `Stopped`. Behind the constraints stands how many ticks later all would have to end,
-/// where that is wanted. Each search has the budget. Where they are wanted the certificate of
-/// the instance by these constraints alone is written first, and then the text of that instance; to a writer of what isn't wanted
-/// nothing is. All texts are made before one is written: where memory is refused nothing is written, and where a writer fails nothing
-/// is written to those behind it. Where the text that was made of that instance doesn't read back as it, nothing is written of it, and
-/// the end is the fault of that file, once the answer is written.
+/// Writes the files where constraints were told, and ends the command.
+#[tactic(auto, using(crate::proofs::Told::alone))]
+fn finished<C: Write, S: Write>(
+    alloc: Global,
+    instance: &Instance,
+    told: Result<Told, Fault>,
+    wanted: Wanted,
+    certificate: &mut C,
+    reduced: &mut S,
+) -> End
+    requires { IsPrintable told }
+    ensures { IsFinished wanted instance.now told (C.contents certificate.old) (C.contents certificate.new)
+        (S.contents reduced.old) (S.contents reduced.new) result }
+{
+    match told {
+        Ok(Told::Plain(end)) => end,
+        Ok(Told::Narrowed(conflict)) => {
+            write_behind(alloc, instance, &conflict, wanted, certificate, reduced)
+        }
+        Err(fault) => End::Refused(fault),
+    }
+}
+
+/// Reads an instance, and writes why it has no plan: that there is none once it is known, and then each constraint as soon as it is
+/// known to be needed, with the word `need`, in the order in which they are found; with `maybe` at last those of which it isn't known, and
+/// then the end is `Absent`. Or the delay of a plan, where there is one; or that neither is known, and then the end is `Stopped`. Behind the
+/// constraints stands how many ticks later all would have to end, where that is wanted. Each search has the budget.
+///
+/// Each line is written as a whole, and flushed. A fault that comes later leaves the lines that were written before it, and is the end: of
+/// memory, of a thread, or of a writer. Behind all lines the certificate of the instance by these constraints alone is written,
+/// and then the text of that instance, where they are wanted; where a writer fails nothing is written to those behind it. Where the text
+/// that was made of that instance doesn't read back as it, nothing is written of it, and the end is the fault of that file.
 pub fn why_run<R: Threads + Wait + Sync, G: Gate + Sync, I: Read, C: Write, S: Write, W: Write>(
     rt: &R,
     asking: &Asking<'_, G>,
@@ -157,11 +161,10 @@ pub fn why_run<R: Threads + Wait + Sync, G: Gate + Sync, I: Read, C: Write, S: W
     // No more is taken of the reader than its limit and one byte.
     ensures most { TakesAtMost (INSTANCE_LIMIT + 1) (I.remaining instance.old) (I.remaining instance.new) }
 {
-    match found_of_reader(rt, asking, instance, wanted) {
-        Ok(found) => {
-            let end = tell(&found, certificate, reduced, out);
-            drop(found);
-            end
+    match read_instance(asking.alloc, instance) {
+        Ok(instance) => {
+            let told = told_of(rt, asking, &instance, wanted.late, out);
+            finished(asking.alloc, &instance, told, wanted, certificate, reduced)
         }
         Err(fault) => End::Refused(fault),
     }

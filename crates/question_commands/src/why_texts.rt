@@ -1,14 +1,15 @@
-//! Which texts tell what was found?
+//! Which texts are written beside the lines, and how?
 
-ghost use Rattle.std.specs.Prelude.{IfOk};
-ghost use Rattle.question_commands.specs.Answers.{AreTextsOf, IsCertificateText, IsPrintable, IsReducedText};
-ghost use Rattle.question_commands.specs.Words.{AreToldOf};
+ghost use Rattle.std.specs.Prelude.{IfOk, MatchBool};
+ghost use Rattle.certificate.specs.Versions.{Allows};
+ghost use Rattle.question_commands.specs.Answers.{AreFilesOf, AreFilesWritten, IsReducedCut, IsReducedText, IsReducedWritten};
 
-use crate::words::why_text;
-use command_streams::{Texts, instance_text};
+use crate::certificates::certificate_text;
+use command_streams::{End, Fault, Sink, instance_text, write_text};
 use instance_variants::with_only;
-use plan_questions::{Conflict, Lateness};
+use plan_questions::Conflict;
 use std::alloc::Global;
+use std::io::Write;
 use ttp_model::{Instance, MemoryFault};
 
 /// What is to be told beside the constraints.
@@ -21,19 +22,12 @@ pub struct Wanted {
     pub late: bool,
 }
 
-/// The text of the certificate.
-fn certificate_text(
-    alloc: Global,
-    conflict: &Conflict,
-    wanted: bool,
-) -> Result<Vec<u8>, MemoryFault>
-    requires { IsPrintable conflict.now }
-    ensures { IfOk result (λ text. IsCertificateText wanted conflict.now text.items) }
-{
-    match conflict {
-        Conflict::None { cert, .. } if wanted => certificate::print(alloc, cert),
-        Conflict::Plan { .. } | Conflict::None { .. } | Conflict::Unknown => Ok(Vec::new(alloc)),
-    }
+/// What is written beside the lines, each to a writer of its own; what isn't wanted is empty.
+#[derive(Drop)]
+pub struct FileTexts {
+    pub certificate: Vec<u8>,
+    /// None where no text of the instance reads back.
+    pub reduced: Option<Vec<u8>>,
 }
 
 /// The text of the instance by the constraints that leave no plan; none where no text of it reads back.
@@ -43,38 +37,60 @@ fn reduced_text(
     conflict: &Conflict,
     wanted: bool,
 ) -> Result<Option<Vec<u8>>, MemoryFault>
-    ensures { IfOk result (IsReducedText wanted instance.now conflict.now) }
+    ensures { IfOk result (IsReducedText wanted instance.now conflict.now.kept) }
 {
-    match conflict {
-        Conflict::None { kept, .. } if wanted => {
-            let reduced = with_only(alloc, instance, kept)?;
-            instance_text(alloc, &reduced)
-        }
-        Conflict::Plan { .. } | Conflict::None { .. } | Conflict::Unknown => {
-            Ok(Some(Vec::new(alloc)))
-        }
+    if wanted {
+        let reduced = with_only(alloc, instance, &conflict.kept)?;
+        instance_text(alloc, &reduced)
+    } else {
+        Ok(Some(Vec::new(alloc)))
     }
 }
 
-/// The texts that tell what was found; of the certificate and the instance nothing where they aren't wanted, or where no constraints
-/// leave no plan.
-pub fn texts_of(
+/// Both texts.
+pub fn files_of(
     alloc: Global,
     instance: &Instance,
     conflict: &Conflict,
-    late: &Option<Lateness>,
     wanted: Wanted,
-) -> Result<Texts, MemoryFault>
-    requires printable { IsPrintable conflict.now }
-    requires told { AreToldOf instance.now conflict.now }
-    ensures { IfOk result (AreTextsOf wanted instance.now conflict.now late.now) }
+) -> Result<FileTexts, MemoryFault>
+    requires { Allows conflict.now.cert.version conflict.now.cert.tree }
+    ensures { IfOk result (AreFilesOf wanted instance.now conflict.now.kept conflict.now.cert) }
 {
-    let certificate = certificate_text(alloc, conflict, wanted.certificate)?;
+    let certificate = certificate_text(alloc, &conflict.cert, wanted.certificate)?;
     let reduced = reduced_text(alloc, instance, conflict, wanted.reduced)?;
-    let answer = why_text(alloc, instance, conflict, late)?;
-    Ok(Texts {
+    Ok(FileTexts {
         certificate,
         reduced,
-        answer,
     })
+}
+
+/// Writes the text of the instance, where there is one.
+fn write_reduced<S: Write>(text: &Option<Vec<u8>>, reduced: &mut S) -> bool
+    ensures { MatchBool result
+        (IsReducedWritten text.now (S.contents reduced.old) (S.contents reduced.new))
+        (IsReducedCut text.now (S.contents reduced.old) (S.contents reduced.new)) }
+{
+    match text {
+        Some(text) => write_text(reduced, text.as_slice()).is_ok(),
+        None => false,
+    }
+}
+
+/// Writes both texts, the certificate first, which ends the command.
+pub fn write_files<C: Write, S: Write>(
+    files: &FileTexts,
+    certificate: &mut C,
+    reduced: &mut S,
+) -> End
+    ensures { AreFilesWritten files.now
+        (C.contents certificate.old) (C.contents certificate.new) (S.contents reduced.old) (S.contents reduced.new) result }
+{
+    if write_text(certificate, files.certificate.as_slice()).is_err() {
+        return End::Refused(Fault::Unwritten(Sink::Certificate));
+    }
+    if !write_reduced(&files.reduced, reduced) {
+        return End::Refused(Fault::Unwritten(Sink::Reduced));
+    }
+    End::Absent
 }

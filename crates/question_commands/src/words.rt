@@ -2,11 +2,11 @@
 
 ghost use Rattle.std.specs.Prelude.{◌≡◌, ◌<◌, ◌++◌, All, IfOk, OnOk, codes, decimal, length};
 ghost use Rattle.std.specs.List.{flat_map};
-ghost use Rattle.question_commands.specs.Words.{AreToldOf, IsOf, both_words, constraint_words, deadline_words, horizon_words, late_text, late_words, link_words, message_words, need_line, need_word, needs_text, none_text, plan_text, release_words, why_text};
+ghost use Rattle.question_commands.specs.Words.{IsOf, both_words, constraint_words, deadline_words, horizon_words, late_line, late_words, link_words, maybe_line, message_words, need_line, others_text, plan_text, release_words};
 
 use instance_variants::Constraint;
 use line_text::push_number;
-use plan_questions::{Conflict, Lateness, Need};
+use plan_questions::{Lateness, Need};
 use std::alloc::{AllocError, Global};
 use ttp_model::Instance;
 
@@ -89,48 +89,65 @@ fn push_constraint(
     }
 }
 
-/// The word for whether a constraint is known to be needed, with a space behind it.
-fn need_word(is_shown: bool) -> &'static [u8]
-    ensures { result.now ≡ need_word is_shown }
+/// The line of a constraint that is needed.
+pub fn need_line(
+    alloc: Global,
+    instance: &Instance,
+    constraint: Constraint,
+) -> Result<Vec<u8>, AllocError>
+    requires { IsOf instance.now constraint }
+    ensures { IfOk result (λ line. line.items ≡ need_line instance.now constraint) }
 {
-    if is_shown { b"need " } else { b"maybe " }
+    let mut line = Vec::from_slice(alloc, b"need ")?;
+    push_constraint(&mut line, instance, constraint)?;
+    line.push(b'\n')?;
+    Ok(line)
 }
 
-/// Adds the line of a constraint.
-fn push_need(text: &mut Vec<u8>, instance: &Instance, need: Need) -> Result<(), AllocError>
+/// Adds the line of a constraint that isn't known to be needed.
+fn push_maybe(text: &mut Vec<u8>, instance: &Instance, need: Need) -> Result<(), AllocError>
     requires { IsOf instance.now need.constraint }
-    ensures { OnOk result (text.new.items ≡ text.old.items ++ need_line instance.now need) }
+    ensures { OnOk result (text.new.items ≡ text.old.items ++ maybe_line instance.now need) }
 {
-    text.extend_from_slice(need_word(need.is_shown))?;
+    if need.is_shown {
+        return Ok(());
+    }
+    text.extend_from_slice(b"maybe ")?;
     push_constraint(text, instance, need.constraint)?;
     text.push(b'\n')?;
     Ok(())
 }
 
-/// Adds the lines of constraints.
-fn push_needs(text: &mut Vec<u8>, instance: &Instance, needs: &[Need]) -> Result<(), AllocError>
+/// Adds the lines of those that aren't.
+fn push_maybes(text: &mut Vec<u8>, instance: &Instance, needs: &[Need]) -> Result<(), AllocError>
     requires { All (λ need. IsOf instance.now need.constraint) needs.now }
-    ensures { OnOk result (text.new.items ≡ text.old.items ++ flat_map (need_line instance.now) needs.now) }
+    ensures { OnOk result (text.new.items ≡ text.old.items ++ flat_map (maybe_line instance.now) needs.now) }
 {
     for need in needs {
-        push_need(text, instance, *need)?;
+        push_maybe(text, instance, *need)?;
     }
     Ok(())
 }
 
-/// Adds the lines of all constraints that leave no plan; where there are none a line that says so.
-fn push_told(text: &mut Vec<u8>, instance: &Instance, needs: &[Need]) -> Result<(), AllocError>
+/// The lines of those that aren't; where there are no constraints at all a line that says so.
+pub fn others_text(
+    alloc: Global,
+    instance: &Instance,
+    needs: &[Need],
+) -> Result<Vec<u8>, AllocError>
     requires { All (λ need. IsOf instance.now need.constraint) needs.now }
-    ensures { OnOk result (text.new.items ≡ text.old.items ++ needs_text instance.now needs.now) }
+    ensures { IfOk result (λ text. text.items ≡ others_text instance.now needs.now) }
 {
     if needs.is_empty() {
-        text.extend_from_slice(b"need nothing\n")
-    } else {
-        push_needs(text, instance, needs)
+        return Vec::from_slice(alloc, b"need nothing\n");
     }
+    let mut text = Vec::new(alloc);
+    push_maybes(&mut text, instance, needs)?;
+    Ok(text)
 }
 
-fn plan_text(alloc: Global, delay: u64) -> Result<Vec<u8>, AllocError>
+/// The text where there is a plan of so many ticks.
+pub fn plan_text(alloc: Global, delay: u64) -> Result<Vec<u8>, AllocError>
     ensures { IfOk result (λ text. text.items ≡ plan_text delay) }
 {
     let mut text = Vec::from_slice(alloc, b"ttwhy 1\nplan ")?;
@@ -168,46 +185,12 @@ fn push_lateness(text: &mut Vec<u8>, lateness: &Lateness) -> Result<(), AllocErr
     }
 }
 
-/// Adds the line that tells it, where it was asked for.
-fn push_late(text: &mut Vec<u8>, late: &Option<Lateness>) -> Result<(), AllocError>
-    ensures { OnOk result (text.new.items ≡ text.old.items ++ late_text late.now) }
+/// The line that tells it.
+pub fn late_line(alloc: Global, lateness: &Lateness) -> Result<Vec<u8>, AllocError>
+    ensures { IfOk result (λ line. line.items ≡ late_line lateness.now) }
 {
-    if let Some(lateness) = late {
-        text.extend_from_slice(b"late ")?;
-        push_lateness(text, lateness)?;
-        text.push(b'\n')?;
-    }
-    Ok(())
-}
-
-fn none_text(
-    alloc: Global,
-    instance: &Instance,
-    needs: &[Need],
-    late: &Option<Lateness>,
-) -> Result<Vec<u8>, AllocError>
-    requires { All (λ need. IsOf instance.now need.constraint) needs.now }
-    ensures { IfOk result (λ text. text.items ≡ none_text instance.now needs.now late.now) }
-{
-    let mut text = Vec::from_slice(alloc, b"ttwhy 1\nnone\n")?;
-    push_told(&mut text, instance, needs)?;
-    push_late(&mut text, late)?;
-    Ok(text)
-}
-
-/// The text that tells what was found.
-pub fn why_text(
-    alloc: Global,
-    instance: &Instance,
-    conflict: &Conflict,
-    late: &Option<Lateness>,
-) -> Result<Vec<u8>, AllocError>
-    requires { AreToldOf instance.now conflict.now }
-    ensures { IfOk result (λ text. text.items ≡ why_text instance.now conflict.now late.now) }
-{
-    match conflict {
-        Conflict::Plan { delay, .. } => plan_text(alloc, *delay),
-        Conflict::None { needs, .. } => none_text(alloc, instance, needs.as_slice(), late),
-        Conflict::Unknown => Vec::from_slice(alloc, b"ttwhy 1\nunknown\n"),
-    }
+    let mut line = Vec::from_slice(alloc, b"late ")?;
+    push_lateness(&mut line, lateness)?;
+    line.push(b'\n')?;
+    Ok(line)
 }

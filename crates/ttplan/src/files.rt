@@ -2,7 +2,7 @@
 
 use crate::hints::{Said, told};
 use crate::judging::refused;
-use command_line::{Asks, Limit, Search, Why, refuse, written_over};
+use command_line::{Asks, Limit, Margin, Search, Why, refuse, written_over};
 use command_streams::{End, Fault, Sink, Source};
 use json_commands::CommandLines;
 use std::fs::{self, File, OpenOptions};
@@ -53,6 +53,18 @@ impl<'a> Named<'a> {
             start: None,
             certificate: limit.certificate,
             reduced: limit.reduced,
+            kept: None,
+        }
+    }
+
+    /// The names in a request of `margin`.
+    pub fn of_margin(margin: &Margin<'a>) -> Self {
+        Named {
+            command: Asks::Margin,
+            instance: margin.instance,
+            start: None,
+            certificate: margin.certificate,
+            reduced: margin.reduced,
             kept: None,
         }
     }

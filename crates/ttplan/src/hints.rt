@@ -124,9 +124,10 @@ fn hint_at_fault(rt: &HostRuntime, said: &Said, fault: &Fault) {
     if err.is_terminal() && status_of_fault(fault) != WANT_OF_MEMORY {
         let _ = write_hint(&mut err, said, fault);
         match fault {
-            Fault::NoSuchProcess(index) if !said.is_repeated(*index) => {
-                let _ = write_near(rt, &mut err, said, *index);
-            }
+            Fault::NoSuchProcess(index) | Fault::NoSuchRunner(index) if !said.is_repeated(*index) =>
+                {
+                    let _ = write_near(rt, &mut err, said, *index);
+                }
             _ => {}
         }
     }
@@ -202,10 +203,10 @@ fn write_hint(out: &mut impl Write, said: &Said, fault: &Fault) -> io::Result<()
             "no such frame is received: the slot is outside the cycle, or the node isn't there or is the sender: {}",
             said.word(*index)
         ),
-        Fault::NoSuchProcess(index) if said.is_repeated(*index) => {
+        Fault::NoSuchProcess(index) | Fault::NoSuchRunner(index) if said.is_repeated(*index) => {
             writeln!(out, "this process is named before: {}", said.word(*index))
         }
-        Fault::NoSuchProcess(index) => {
+        Fault::NoSuchProcess(index) | Fault::NoSuchRunner(index) => {
             writeln!(out, "no process has this name: {}", said.word(*index))
         }
         Fault::TooManySlots(slots) => writeln!(

@@ -275,7 +275,14 @@ fn run_explain_certificate(
     let (alloc, mut out) = (rt.alloc(), rt.stdout());
     let (instance, certificate) = (&mut instance, &mut certificate);
     match form {
-        AnswerForm::Text => explain_certificate(threads, alloc, instance, certificate, &mut out),
+        AnswerForm::Text => explain_certificate(
+            threads,
+            alloc,
+            instance,
+            certificate,
+            &mut Reasons::unasked(),
+            &mut out,
+        ),
         AnswerForm::Json => explain_certificate_json(
             threads,
             alloc,

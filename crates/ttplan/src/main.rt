@@ -6,6 +6,7 @@ ghost use Rattle.command_line.specs.Requests.{IsSound};
 mod files;
 mod hints;
 mod judging;
+mod longer;
 mod plan_file;
 mod searches;
 mod version;
@@ -16,7 +17,7 @@ pub use command_streams::{End, Fault, Release, SearchFault, Sink, Source, report
 pub use json_commands::{
     Beside, Wanted, compare_json, explain_certificate, explain_certificate_json, explain_instance,
     explain_instance_json, explain_plan, explain_plan_json, judge_json, limit_json, limit_run,
-    verify_json, why_json, why_run,
+    margin_json, margin_run, verify_json, why_json, why_run,
 };
 pub use period_command::{period_run, tables_run};
 pub use plan_commands::{
@@ -49,6 +50,7 @@ fn run(rt: &HostRuntime, threads: &(impl Threads + Wait + Sync), request: Reques
         Request::Solve(search) => searches::solve(rt, threads, &search),
         Request::Why(why) => searches::why(rt, threads, &why),
         Request::Limit(limit) => searches::limit(rt, threads, &limit),
+        Request::Margin(margin) => longer::margin(rt, threads, &margin),
         Request::Check {
             instance,
             certificate,

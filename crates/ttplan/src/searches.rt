@@ -4,7 +4,7 @@ use crate::files::{FileFault, Files, Named};
 use crate::hints::{Said, hint_at_none, told};
 use crate::judging::as_json;
 use crate::plan_file::shelf_of;
-use command_line::{AnswerForm, Limit, Search, Why};
+use command_line::{AnswerForm, Effort, Limit, Search, Why};
 use command_streams::End;
 use json_commands::{Asking, Beside, LIMIT, WHY, Wanted, limit_json, limit_run, why_json, why_run};
 use search_watching::{Follower, Keeper, Lines, Patience, Patient, Progress, Searches, kept_end};
@@ -17,7 +17,7 @@ use std::thread::Threads;
 
 /// What is written beside an answer: to a file, or nowhere.
 #[derive(Drop)]
-struct Sheet(Option<File>);
+pub struct Sheet(pub Option<File>);
 
 impl io::Write for Sheet {
     fn write(&mut self, buf: &[u8]) -> io::Result<usize> {
@@ -36,11 +36,28 @@ impl io::Write for Sheet {
 }
 
 /// How lines of progress are written.
-fn lines_for(rt: &HostRuntime) -> Lines {
+pub fn lines_for(rt: &HostRuntime) -> Lines {
     if rt.stderr().is_terminal() {
         Lines::Over
     } else {
         Lines::Apart
+    }
+}
+
+/// The same beside an answer that is told line by line: none is written over where its lines stand between them.
+fn lines_beside(rt: &HostRuntime) -> Lines {
+    if rt.stdout().is_terminal() {
+        Lines::Apart
+    } else {
+        lines_for(rt)
+    }
+}
+
+/// What a search may use.
+pub fn options_of(effort: &Effort) -> Options {
+    Options {
+        workers: effort.workers,
+        budget: effort.budget,
     }
 }
 
@@ -91,10 +108,7 @@ fn search_files(
         mut certificate,
         ..
     } = files;
-    let options = Options {
-        workers: search.effort.workers,
-        budget: search.effort.budget,
-    };
+    let options = options_of(&search.effort);
     let enough = Enough {
         until: search.until,
         gap: search.gap,
@@ -146,7 +160,7 @@ pub fn solve(rt: &HostRuntime, threads: &(impl Threads + Wait + Sync), search: &
 }
 
 /// What ends the searches of a question so many seconds after the start, and tells a follower how they go on.
-fn patient_for<'a, F: Follower>(
+pub fn patient_for<'a, F: Follower>(
     rt: &'a HostRuntime,
     seconds: Option<u64>,
     follower: &'a F,
@@ -167,7 +181,7 @@ fn run_why<'a>(
     if !why.effort.progress {
         return follow_why(rt, threads, why, &FreeGate);
     }
-    let searches = Searches::on(rt, lines_for(rt));
+    let searches = Searches::on(rt, lines_beside(rt));
     let end = follow_why(rt, threads, why, &searches);
     searches.end();
     end
@@ -181,41 +195,21 @@ fn follow_why<'a>(
     follower: &(impl Follower + Sync),
 ) -> Result<End, FileFault<'a>> {
     let mut files = Files::open(rt, &Named::of_why(why))?;
-    let options = Options {
-        workers: why.effort.workers,
-        budget: why.effort.budget,
-    };
     let wanted = Wanted {
         certificate: why.certificate.is_some(),
         reduced: why.reduced.is_some(),
         late: why.late,
     };
-    let asking = Asking {
+    let asking = &Asking {
         alloc: rt.alloc(),
-        options,
+        options: options_of(&why.effort),
         gate: &patient_for(rt, why.effort.seconds, follower),
     };
-    let (instance, mut out) = (&mut files.instance, rt.stdout());
-    let (certificate, reduced) = (&mut Sheet(files.certificate), &mut Sheet(files.reduced));
+    let (instance, out) = (&mut files.instance, &mut rt.stdout());
+    let (cert, reduced) = (&mut Sheet(files.certificate), &mut Sheet(files.reduced));
     Ok(match why.form {
-        AnswerForm::Text => why_run(
-            threads,
-            &asking,
-            instance,
-            wanted,
-            certificate,
-            reduced,
-            &mut out,
-        ),
-        AnswerForm::Json => why_json(
-            threads,
-            &asking,
-            instance,
-            wanted,
-            certificate,
-            reduced,
-            &mut out,
-        ),
+        AnswerForm::Text => why_run(threads, asking, instance, wanted, cert, reduced, out),
+        AnswerForm::Json => why_json(threads, asking, instance, wanted, cert, reduced, out),
     })
 }
 
@@ -251,42 +245,22 @@ fn follow_limit<'a>(
     follower: &(impl Follower + Sync),
 ) -> Result<End, FileFault<'a>> {
     let mut files = Files::open(rt, &Named::of_limit(limit))?;
-    let options = Options {
-        workers: limit.effort.workers,
-        budget: limit.effort.budget,
-    };
     let beside = Beside {
         certificate: limit.certificate.is_some(),
         reduced: limit.reduced.is_some(),
     };
-    let asking = Asking {
+    let asking = &Asking {
         alloc: rt.alloc(),
-        options,
+        options: options_of(&limit.effort),
         gate: &patient_for(rt, limit.effort.seconds, follower),
     };
     let words = limit.processes.as_slice();
-    let (instance, mut out) = (&mut files.instance, rt.stdout());
-    let (certificate, reduced) = (&mut Sheet(files.certificate), &mut Sheet(files.reduced));
+    let (instance, out) = (&mut files.instance, &mut rt.stdout());
+    let (cert, reduced) = (&mut Sheet(files.certificate), &mut Sheet(files.reduced));
     Ok(match limit.form {
-        AnswerForm::Text => limit_run(
-            threads,
-            &asking,
-            instance,
-            words,
-            beside,
-            certificate,
-            reduced,
-            &mut out,
-        ),
+        AnswerForm::Text => limit_run(threads, asking, instance, words, beside, cert, reduced, out),
         AnswerForm::Json => limit_json(
-            threads,
-            &asking,
-            instance,
-            words,
-            beside,
-            certificate,
-            reduced,
-            &mut out,
+            threads, asking, instance, words, beside, cert, reduced, out,
         ),
     })
 }

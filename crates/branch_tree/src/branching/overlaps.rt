@@ -83,9 +83,15 @@ fn add_overlaps(
     requires process { p < length instance.now.processes }
 {
     for q in 0..p {
-        if let Some(candidate) = overlap(instance, choice, facts, q, p) {
-            pairs.push(candidate)?;
-        }
+        add(overlap(instance, choice, facts, q, p), pairs)?;
+    }
+    Ok(())
+}
+
+/// Adds a branch, where there is one.
+fn add(found: Option<Candidate>, pairs: &mut Vec<Candidate>) -> Result<(), MemoryFault> {
+    if let Some(candidate) = found {
+        pairs.push(candidate)?;
     }
     Ok(())
 }

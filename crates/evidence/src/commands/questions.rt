@@ -1,13 +1,15 @@
-//! What is told of any plan, of early ends, and of how late all has to end.
+//! What is told of any plan, of early ends, of longer runs, and of how late all has to end.
 
-ghost use Rattle.std.specs.Prelude.{◌≤◌, IfOk, IfSome, IsTrue};
+ghost use Rattle.std.specs.Prelude.{◌≤◌, IfOk, IfSome, IsTrue, length};
 ghost use Rattle.ttp_model.specs.Delays.{HasNoPlan};
 ghost use Rattle.ttp_model.specs.Plans.{IsValid};
 ghost use Rattle.instance_variants.specs.Ends.{AreThere, IsLeastEnd};
 ghost use Rattle.instance_variants.specs.Lateness.{IsLeastLateness};
+ghost use Rattle.instance_variants.specs.Longer.{IsGreatestMargin};
 
 use plan_questions::{
-    Asking, EndLimit, Gate, Lateness, SolveFault, Sought, any_plan, least_end, least_lateness,
+    Asking, EndLimit, Gate, Lateness, Margin, Scale, SolveFault, Sought, any_plan, greatest_margin,
+    least_end, least_lateness,
 };
 use std::marker::Sync;
 use std::sync::Wait;
@@ -58,6 +60,25 @@ pub fn none_ends_before_the_least_end<R: Threads + Wait + Sync, G: Gate + Sync>(
         EndLimit::Between { .. } | EndLimit::Unknown { .. } | EndLimit::Infeasible { .. } => {
             Ok(None)
         }
+    }
+}
+
+/// With one more than the greatest margin no plan is valid, also where a window says so and no search.
+pub fn none_has_more_than_the_margin<R: Threads + Wait + Sync, G: Gate + Sync>(
+    rt: &R,
+    asking: &Asking<'_, G>,
+    instance: &Instance,
+    processes: &[u32],
+    scale: Scale,
+) -> Result<Option<u32>, SolveFault>
+    requires there { AreThere instance.now processes.now }
+    requires some { 1 ≤ length processes.now }
+    ensures { IfOk result (λ greatest. IfSome greatest (IsGreatestMargin instance.now processes.now scale)) }
+{
+    match greatest_margin(rt, asking, instance, processes, scale)? {
+        Margin::Greatest { margin, .. } => Ok(Some(margin)),
+        Margin::Window { margin, .. } => Ok(Some(margin)),
+        Margin::Between { .. } | Margin::Unknown { .. } | Margin::Never => Ok(None),
     }
 }
 

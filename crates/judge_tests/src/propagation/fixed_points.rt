@@ -1,109 +1,102 @@
 //! What propagation leaves open no step of the table sharpens, whether propagation tries it or not.
 
-ghost use Rattle.tt_choice.specs.Choice.{IsChoice};
-
-use crate::decisions::chosen;
-use crate::inference::{cert_of, leaf_steps};
+use crate::decisions::decide;
 use crate::instances;
 use crate::instances::Small;
-use certificate::Cert;
 use load_bounds::{frame_load, node_load};
-use path_bounds::{Agenda, Reached, propagate};
+use path_bounds::Propagator;
 use std::alloc::{AllocError, Global};
 use std::process::Abort;
 use std::test::Fail;
+use tt_choice::Decision;
 use tt_choice::Decision::{AtLeast, AtMost, Before, Channel};
-use tt_choice::{Choice, Decision};
 use tt_infer::Facts;
-use ttp_model::{Instance, Step};
+use ttp_model::{Instance, MemoryFault, Ring, Step};
 use worked_instances::PLAIN;
 
-/// What a step names, by numbers from 0.
-enum Named {
-    Nodes,
-    Processes,
-    Links,
-    Messages,
-    /// Rounds, of which the first hundred are tried.
-    Rounds,
+/// More things of a kind than any of these instances has. What a step names that isn't there changes nothing.
+const THINGS: u32 = 5;
+
+/// More rounds than their plans have.
+const ROUNDS: u32 = 100;
+
+/// Tries the steps on starts and orders that name one thing, or two.
+fn try_starts(facts: &mut Facts, a: u32, b: u32) {
+    let _ = facts.apply(&Step::EsRelease(a));
+    let _ = facts.apply(&Step::EsLink(a));
+    let _ = facts.apply(&Step::EsBefore(a, b));
+    let _ = facts.apply(&Step::EsArrive(a, b));
+    let _ = facts.apply(&Step::EsMessage(a, b));
+    let _ = facts.apply(&Step::LoSend(a));
+    let _ = facts.apply(&Step::OrdWindow(a, b));
+    let _ = facts.apply(&Step::OrdTwin(a, b));
 }
 
-use self::Named::{Links, Messages, Nodes, Processes, Rounds};
-
-/// Steps that name one thing.
-static OF_ONE: &[(&str, Named)] = &[
-    ("es-release", Processes),
-    ("es-link", Links),
-    ("lo-send", Messages),
-    ("le-own", Processes),
-    ("le-link", Links),
-    ("le-send", Messages),
-    ("us-settled", Processes),
-    ("x-window", Processes),
-    ("x-round", Messages),
-    ("x-frame", Messages),
-    ("x-mirror", Messages),
-];
-
-/// Steps that name two things. Those that name an interval are closers of loads, which `node_load` and `frame_load` find.
-static OF_TWO: &[(&str, Named, Named)] = &[
-    ("es-before", Processes, Processes),
-    ("es-arrive", Messages, Processes),
-    ("es-message", Messages, Processes),
-    ("le-before", Processes, Processes),
-    ("le-message", Messages, Processes),
-    ("hi-arrive", Messages, Processes),
-    ("ord-window", Processes, Processes),
-    ("ord-twin", Processes, Processes),
-    ("x-cycle", Processes, Processes),
-    ("x-late", Messages, Rounds),
-    ("x-silent", Nodes, Nodes),
-];
-
-/// How many there are of what a step names.
-fn count_of(i: &Instance, named: &Named) -> usize {
-    match named {
-        Nodes => i.nodes().len(),
-        Processes => i.processes().len(),
-        Links => i.links().len(),
-        Messages => i.messages().len(),
-        Rounds => 100,
-    }
+/// The same of the steps on ends.
+fn try_ends(facts: &mut Facts, a: u32, b: u32) {
+    let _ = facts.apply(&Step::UsSettled(a));
+    let _ = facts.apply(&Step::LeOwn(a));
+    let _ = facts.apply(&Step::LeLink(a));
+    let _ = facts.apply(&Step::LeBefore(a, b));
+    let _ = facts.apply(&Step::LeMessage(a, b));
+    let _ = facts.apply(&Step::LeSend(a));
+    let _ = facts.apply(&Step::HiArrive(a, b));
 }
 
-/// Adds a step of each of so many.
-fn add_each(text: &mut String, word: &str, count: usize) -> Result<(), AllocError> {
-    for k in 0..count {
-        writeln!(text, "{word} {k}")?;
-    }
+/// And of closers. Those that name an interval are of loads, which `node_load` and `frame_load` find.
+fn try_closers(facts: &mut Facts, a: u32, b: u32) {
+    let _ = facts.apply(&Step::XWindow(a));
+    let _ = facts.apply(&Step::XRound(a));
+    let _ = facts.apply(&Step::XFrame(a));
+    let _ = facts.apply(&Step::XMirror(a));
+    let _ = facts.apply(&Step::XSilent(a, b));
+}
+
+/// And of a ring of two.
+fn try_ring(alloc: Global, facts: &mut Facts, a: u32, b: u32) -> Result<(), AllocError> {
+    let ring = Ring::new(vec![in alloc; a, b]?);
+    let _ = facts.apply(&Step::XCycle(ring));
     Ok(())
 }
 
-/// Adds a step of each two of so many.
-fn add_pairs(
-    text: &mut String,
-    word: &str,
-    firsts: usize,
-    seconds: usize,
+/// None of these steps changes what is known, which is the same as what other facts know.
+fn expect_no_change(
+    rt: &impl Abort,
+    alloc: Global,
+    facts: &Facts,
+    again: &mut Facts,
+    a: u32,
 ) -> Result<(), AllocError> {
-    for j in 0..firsts {
-        for k in 0..seconds {
-            writeln!(text, "{word} {j} {k}")?;
-        }
+    for b in 0..THINGS {
+        try_starts(again, a, b);
+        try_ends(again, a, b);
+        try_closers(again, a, b);
+        try_ring(alloc, again, a, b)?;
+        assert!(rt; is_same(facts, again), "{a} and {b}");
     }
     Ok(())
 }
 
-/// All steps of the instance that are tried, as a leaf.
-fn all_steps(alloc: Global, i: &Instance) -> Result<Cert, Fail> {
-    let mut lines = String::new(alloc);
-    for (word, named) in OF_ONE {
-        add_each(&mut lines, word, count_of(i, named))?;
+/// No message is late where one of these rounds could take it.
+fn expect_in_time(rt: &impl Abort, facts: &mut Facts, m: u32) {
+    for r in 0..ROUNDS {
+        let _ = facts.apply(&Step::XLate(m, r));
+        assert!(rt; !facts.closed(), "{m} in {r}");
     }
-    for (word, first, second) in OF_TWO {
-        add_pairs(&mut lines, word, count_of(i, first), count_of(i, second))?;
+}
+
+/// Nothing sharpens what is known, which is the same as what other facts know.
+fn expect_idle(
+    rt: &impl Abort,
+    alloc: Global,
+    facts: &Facts,
+    again: &mut Facts,
+) -> Result<(), AllocError> {
+    for a in 0..THINGS {
+        expect_no_change(rt, alloc, facts, again, a)?;
+        expect_in_time(rt, again, a);
     }
-    cert_of(alloc, lines.as_str().trim_end())
+    Ok(())
 }
 
 /// Whether the same processes are known to go before one another.
@@ -119,57 +112,30 @@ fn has_same_orders(facts: &Facts, other: &Facts) -> bool {
     true
 }
 
+/// Whether processes start and end at the same ticks.
+fn has_same_times(facts: &Facts, other: &Facts) -> bool {
+    facts.starts() == other.starts() && facts.ends() == other.ends()
+}
+
+/// Whether the same rounds are left to messages.
+fn has_same_rounds(facts: &Facts, other: &Facts) -> bool {
+    facts.first_rounds() == other.first_rounds() && facts.late_rounds() == other.late_rounds()
+}
+
 /// Whether the same is known.
 fn is_same(facts: &Facts, other: &Facts) -> bool {
     facts.closed() == other.closed()
-        && facts.starts() == other.starts()
-        && facts.ends() == other.ends()
-        && facts.first_rounds() == other.first_rounds()
-        && facts.late_rounds() == other.late_rounds()
+        && has_same_times(facts, other)
+        && has_same_rounds(facts, other)
         && has_same_orders(facts, other)
-}
-
-/// None of these steps changes what is known, which is the same as what other facts know.
-fn expect_no_change(rt: &impl Abort, facts: &Facts, again: &mut Facts, steps: &[Step]) {
-    for step in steps {
-        let _ = again.apply(step);
-        assert!(rt; is_same(facts, again), "{step:?}");
-    }
-}
-
-/// Where plans may be left, no step sharpens what is known, which is the same as what other facts know.
-fn expect_idle(
-    rt: &impl Abort,
-    alloc: Global,
-    facts: &Facts,
-    again: &mut Facts,
-) -> Result<(), Fail> {
-    if facts.closed() {
-        return Ok(());
-    }
-    let cert = all_steps(alloc, facts.instance())?;
-    expect_no_change(rt, facts, again, leaf_steps(rt, &cert));
-    Ok(())
 }
 
 /// A log leads from what is known at first to what is known.
 fn expect_led(rt: &impl Abort, facts: &Facts, again: &mut Facts, log: &[Step]) {
     for step in log {
-        assert!(rt; again.apply(step).is_ok(), "{step:?}");
+        let _ = again.apply(step);
     }
     assert!(rt; is_same(facts, again));
-}
-
-/// A log leads from what is known at first to what is known; and where plans may be left, no step sharpens that.
-pub fn expect_reached(
-    rt: &impl Abort,
-    alloc: Global,
-    facts: &Facts,
-    log: &[Step],
-) -> Result<(), Fail> {
-    let mut again = Facts::new(alloc, facts.instance(), facts.choice(), facts.goal())?;
-    expect_led(rt, facts, &mut again, log);
-    expect_idle(rt, alloc, facts, &mut again)
 }
 
 /// No node has a closer of loads.
@@ -181,44 +147,59 @@ fn expect_room(rt: &impl Abort, facts: &Facts) {
     }
 }
 
-/// Whether propagation leaves a choice open at a goal. Then nothing sharpens what is known.
+/// The log leads to what is known, and nothing sharpens that.
+fn expect_reached(
+    rt: &impl Abort,
+    alloc: Global,
+    facts: &Facts,
+    log: &[Step],
+) -> Result<(), MemoryFault> {
+    let mut again = Facts::new(alloc, facts.instance(), facts.choice(), facts.goal())?;
+    expect_led(rt, facts, &mut again, log);
+    expect_idle(rt, alloc, facts, &mut again)?;
+    expect_room(rt, facts);
+    Ok(())
+}
+
+/// Makes decisions one after another, as long as a plan may be left.
+fn decide_all(
+    alloc: Global,
+    propagator: &mut Propagator,
+    decisions: &[Decision],
+) -> Result<(), MemoryFault> {
+    for decision in decisions {
+        decide(alloc, propagator, *decision)?;
+    }
+    Ok(())
+}
+
+/// Whether propagation leaves plans of these decisions below a goal, and is right in that.
 fn is_open(
     rt: &impl Abort,
     alloc: Global,
     i: &Instance,
-    choice: &Choice,
     goal: u32,
-) -> Result<bool, Fail>
-    requires { IsChoice i.now choice.now }
-{
-    let mut agenda = Agenda::of(alloc, i)?;
-    let mut steps = Vec::new(alloc);
-    match propagate(alloc, &mut agenda, i, choice, goal, &mut steps)? {
-        Reached::Closed => Ok(false),
-        Reached::At(facts) => expect_open(rt, alloc, &facts, steps.as_slice()),
+    decisions: &[Decision],
+) -> Result<bool, MemoryFault> {
+    let mut propagator = Propagator::start(alloc, i, goal)?;
+    decide_all(alloc, &mut propagator, decisions)?;
+    if propagator.closed() {
+        return Ok(false);
     }
-}
-
-/// Nothing sharpens what is known, to which these steps lead.
-fn expect_open(
-    rt: &impl Abort,
-    alloc: Global,
-    facts: &Facts,
-    steps: &[Step],
-) -> Result<bool, Fail> {
-    assert!(rt; !facts.closed());
-    expect_room(rt, facts);
-    expect_reached(rt, alloc, facts, steps)?;
+    expect_reached(rt, alloc, propagator.facts(), propagator.log())?;
     Ok(true)
 }
 
-/// At how many goals a choice is open.
-fn open_goals(rt: &impl Abort, alloc: Global, i: &Instance, choice: &Choice) -> Result<u32, Fail>
-    requires { IsChoice i.now choice.now }
-{
+/// Below how many goals plans of these decisions are left.
+fn open_goals(
+    rt: &impl Abort,
+    alloc: Global,
+    i: &Instance,
+    decisions: &[Decision],
+) -> Result<u32, MemoryFault> {
     let mut open: u32 = 0;
     for goal in 0..102 {
-        if is_open(rt, alloc, i, choice, goal)? {
+        if is_open(rt, alloc, i, goal, decisions)? {
             open = open.saturating_add(1);
         }
     }
@@ -231,8 +212,7 @@ type Row = (Small, &'static [Decision], u32);
 /// Checks that so many goals are open.
 fn expect(rt: &impl Abort, alloc: Global, (small, decisions, most): &Row) -> Result<(), Fail> {
     let i = small.build(alloc)?;
-    let choice = chosen(rt, alloc, &i, decisions)?;
-    let open = open_goals(rt, alloc, &i, &choice)?;
+    let open = open_goals(rt, alloc, &i, decisions)?;
     assert!(rt;
         open > *most,
         "{open} goals are open, and not more than {most}"

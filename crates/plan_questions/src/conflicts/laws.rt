@@ -6,12 +6,12 @@ ghost use Rattle.ttp_model.specs.Rules.{IsInstance};
 ghost use Rattle.ttp_model.specs.Delays.{HasNoPlan};
 ghost use Rattle.certificate.specs.Cert.{Cert};
 ghost use Rattle.planner.specs.outcome.Options.{Options};
+ghost use Rattle.instance_variants.specs.declared.kept.constraints.Constraint.{Constraint};
 ghost use Rattle.instance_variants.specs.declared.kept.constraints.Constraints.{Constraints};
-ghost use Rattle.plan_questions.specs.declared.conflicts.conflict.Need.{Need};
 ghost use Rattle.plan_questions.specs.Conflicts.{IsConflict};
 
 /// Where some constraints of an instance leave no plan by themselves, it has none.
 pub fn conflicts_leave_no_plan()
-    ensures { (i : Instance) (options : Options) (needs : List Need) (K : Constraints) (cert : Cert) → IsInstance i
-        → IsConflict i options needs K cert → HasNoPlan i }
+    ensures { (i : Instance) (options : Options) (K : Constraints) (cert : Cert) (needed : List Constraint) → IsInstance i
+        → IsConflict i options K cert needed → HasNoPlan i }
 {}

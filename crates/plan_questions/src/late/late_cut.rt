@@ -9,7 +9,7 @@ ghost use Rattle.plan_questions.specs.LateAnswers.{late_cutting};
 use crate::cuts::Cut;
 use instance_variants::{lateness, with_later};
 use std::alloc::Global;
-use ttp_model::{Instance, MemoryFault, Plan};
+use ttp_model::{Instance, MOST_TICKS, MemoryFault, Plan};
 
 /// An instance that has no plan, in which all may end a number of ticks later.
 #[derive(Drop)]
@@ -32,6 +32,10 @@ impl<'a> Cut for LateCut<'a> {
 
     fn least(&self) -> u32 {
         1
+    }
+
+    fn most(&self) -> u32 {
+        MOST_TICKS
     }
 
     fn instance_at(&self, alloc: Global, number: u32) -> Result<Instance, MemoryFault> {

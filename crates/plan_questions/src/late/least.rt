@@ -28,7 +28,7 @@ pub fn least_lateness<R: Threads + Wait + Sync, G: Gate + Sync>(
     let _nodes = instance.nodes();
     let least = least_number(rt, asking, &LateCut { instance })?;
     match least {
-        LeastNumber::Exact { number, plan } => Ok(Lateness::Least { late: number, plan }),
+        LeastNumber::Exact { number, plan, .. } => Ok(Lateness::Least { late: number, plan }),
         LeastNumber::Apart {
             low,
             high,

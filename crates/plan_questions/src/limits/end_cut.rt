@@ -10,7 +10,7 @@ ghost use Rattle.plan_questions.specs.EndAnswers.{end_cutting};
 use crate::cuts::Cut;
 use instance_variants::{last_end, with_deadlines};
 use std::alloc::Global;
-use ttp_model::{Instance, MemoryFault, Plan};
+use ttp_model::{Instance, MOST_TICKS, MemoryFault, Plan};
 
 /// An instance in which some processes have to end by a tick, which they can't before `low`.
 #[derive(Drop)]
@@ -50,6 +50,10 @@ impl<'a> Cut for EndCut<'a> {
 
     fn least(&self) -> u32 {
         self.low
+    }
+
+    fn most(&self) -> u32 {
+        MOST_TICKS
     }
 
     fn instance_at(&self, alloc: Global, number: u32) -> Result<Instance, MemoryFault> {

@@ -103,7 +103,11 @@ pub fn least_end<R: Threads + Wait + Sync, G: Gate + Sync>(
     };
     let least = least_number(rt, asking, &cut)?;
     match least {
-        LeastNumber::Exact { number: end, plan } => {
+        LeastNumber::Exact {
+            number: end,
+            plan,
+            ..
+        } => {
             let outcome = shortest_by(rt, asking, instance, processes, end)?;
             Ok(told(instance, processes, asking.options, end, plan, outcome))
         }

@@ -8,4 +8,4 @@ returns-in-Some g c =
 
 pub returns-in-None : goal.returns-in-None
 returns-in-None g c =
-    exact (g.C.Cut.cutting c.args.cut.now) c.halve.new.known c.in_ok-stopped.ensures.known (rw c.in-None.is at c.in_ok-stopped.ensures.end)
+    exact (g.C.Cut.cutting c.args.cut.now) c.args.asking.now.options c.halve.new.known c.in_ok-stopped.ensures.known (rw c.in-None.is at c.in_ok-stopped.ensures.end)

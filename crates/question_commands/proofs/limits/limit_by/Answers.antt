@@ -1,4 +1,4 @@
-use Rattle.question_commands.proofs.Telling.{printable}
+use Rattle.question_commands.proofs.LimitAnswers.{printable}
 use Rattle.question_commands.proofs.limits.limit_by.Goals as goal
 
 pub texts_of-requires-clause-printable : goal.texts_of-requires-clause-printable

@@ -1,4 +1,4 @@
-use Rattle.question_commands.proofs.Telling.{told_limit}
+use Rattle.question_commands.proofs.LimitAnswers.{told_limit}
 use Rattle.question_commands.proofs.limits.limit_run.Goals as goal
 
 pub returns-in-Ok-clause-answer : goal.returns-in-Ok-clause-answer

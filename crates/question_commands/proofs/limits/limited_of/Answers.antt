@@ -1,5 +1,5 @@
 use Rattle.question_commands.proofs.Naming.{named_there}
-use Rattle.question_commands.proofs.Telling.{limited_by}
+use Rattle.question_commands.proofs.LimitAnswers.{limited_by}
 use Rattle.question_commands.proofs.limits.limited_of.Goals as goal
 
 pub limit_by-requires-after_bounds : goal.limit_by-requires-after_bounds

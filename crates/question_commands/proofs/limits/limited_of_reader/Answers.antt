@@ -1,4 +1,4 @@
-use Rattle.question_commands.proofs.Telling.{judged_of_bytes}
+use Rattle.question_commands.proofs.LimitAnswers.{judged_of_bytes}
 use Rattle.question_commands.proofs.limits.limited_of_reader.Goals as goal
 
 pub returns-clause-judged : goal.returns-clause-judged

@@ -5,7 +5,7 @@ pub least_number-requires-clause-cutting : goal.least_number-requires-clause-cut
 least_number-requires-clause-cutting g c = λ κs alive. late_cuts c.args.instance.now c.nodes-nodes.ensures.instance c.requires
 
 pub returns-in-Exact : goal.returns-in-Exact
-returns-in-Exact g c = late_exact c.args.instance.now c.args.asking.now.options c.in-Exact.number c.in-Exact.plan (rw c.in-Exact.is at c.in_ok-least.ensures)
+returns-in-Exact g c = late_exact c.args.instance.now c.args.asking.now.options c.in-Exact.number c.in-Exact.plan c.in-Exact.below (rw c.in-Exact.is at c.in_ok-least.ensures)
 
 pub returns-in-Apart : goal.returns-in-Apart
 returns-in-Apart g c =

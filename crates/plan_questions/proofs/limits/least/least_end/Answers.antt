@@ -33,7 +33,7 @@ returns-in-Open g c =
     end_unknown c.args.instance.now c.args.processes.now c.requires c.nodes-nodes.ensures.instance c.args.asking.now.options c.in-Open.cert c.in_ok-low.low
     c.in_ok-low.ensures.lower c.in_ok-low.ensures.chains (rw c.in-Open.is at c.in_ok-least.ensures)
 
-pub returns-in-Never : goal.returns-in-Never
-returns-in-Never g c =
+pub returns : goal.returns
+returns g c =
     end_never c.args.instance.now c.args.processes.now c.requires c.nodes-nodes.ensures.instance c.args.asking.now.options c.in-Never.cert
     (rw c.in-Never.is at c.in_ok-least.ensures)
