@@ -20,6 +20,9 @@
                                                    writes the first line of ANSWER, which `ttplan limit INSTANCE PROCESS..` printed
                                                    with CERT as its certificate, where the two show what they have to, and FILE
                                                    states the instance that it is for
+    tools/second_check.py margin INSTANCE ANSWER CERT [--reduced FILE] [--permille] [--within D] [PROCESS]..
+                                                   writes the first line of ANSWER, which `ttplan margin INSTANCE ..` printed with these
+                                                   words beside CERT and FILE, where they show what they have to
     tools/second_check.py why INSTANCE [OPTION]..  asks `ttplan why` with these words, and writes what that says once it is judged
 
 Anything else is told in one line on standard error, with the words and the statuses of `ttplan verify`, `check`, `judge`,
@@ -1546,18 +1549,24 @@ def constraints(instance):
 
 
 def told_constraints(instance, lines):
-    """The constraints that lines tell, each with its word; raises Refused."""
+    """The constraints that lines tell, each once and with its word: those that are needed in any order, and behind them the others in that of
+    the instance; raises Refused."""
     if not lines:
         raise wrong("lines")
     if lines == ["need nothing"]:
         return []
-    places, told = constraints(instance), []
+    told, others = [], []
     for line in lines:
         word, _, words = line.partition(" ")
-        constraint = next((constraint for constraint, there in places if there == words), None)
-        if word not in ("need", "maybe") or constraint is None:
+        before = {constraint for _, constraint, _ in told}
+        constraint = next((constraint for constraint, there in constraints(instance) if there == words and constraint not in before), None)
+        others += [words] if word == "maybe" else []
+        if word not in ("need", "maybe") or constraint is None or word == "need" and others:
             raise wrong(f"line '{line}'")
         told.append((word, constraint, words))
+    places = [words for _, words in constraints(instance)]
+    if others != sorted(others, key=places.index):
+        raise wrong("order")
     return told
 
 
@@ -1696,7 +1705,8 @@ USAGE = ("usage: second_check.py verify INSTANCE PLAN | check INSTANCE CERT | ju
          " | schedule INSTANCE PLAN [--table TABLE] | draw INSTANCE PLAN [--width PX] [--used]"
          " | tables INSTANCE PLAN [--rounds N] | period INSTANCE PLAN PERIOD"
          " | replay INSTANCE PLAN [LOSS].."
-         " | compare OLD_INSTANCE OLD_PLAN NEW_INSTANCE NEW_PLAN | limit INSTANCE ANSWER CERT [--reduced FILE] PROCESS.. | why INSTANCE [OPTION]..")
+         " | compare OLD_INSTANCE OLD_PLAN NEW_INSTANCE NEW_PLAN | limit INSTANCE ANSWER CERT [--reduced FILE] PROCESS.."
+         " | margin INSTANCE ANSWER CERT [--reduced FILE] [--permille] [--within D] [PROCESS].. | why INSTANCE [OPTION]..")
 COMMANDS = {"verify": (verify, "plan", PLAN_BYTES), "check": (check, "certificate", CERTIFICATE_BYTES),
             "tables": (tables, "plan", PLAN_BYTES)}
 
@@ -1732,12 +1742,12 @@ def judge(paths):
         return judgement(judged, delay, proved_bound(judged, taken(certificate, "certificate", CERTIFICATE_BYTES)))
 
 
-def chosen_by(instance, names):
+def chosen_by(instance, names, command="limit"):
     """The processes of these names, each once; raises Refused."""
     known = {process.name: p for p, process in enumerate(instance.processes)}
     for k, name in enumerate(names):
         if name not in known or name in names[:k]:
-            raise Refused(5, f"limit name {k}")
+            raise Refused(5, f"{command} name {k}")
     return [known[name] for name in names]
 
 
@@ -1780,9 +1790,9 @@ def limited(instance, answer, certificate_text, reduced_text, chosen):
     return line.decode(), 0 if form[1] and low == plan.delay else 11
 
 
-def reduced_in(words):
-    """The text of the file that is named behind `--reduced`, where that goes first, and the words behind it; raises Refused."""
-    if words[0] != "--reduced" or len(words) < 3:
+def reduced_in(words, behind):
+    """The text of the file that is named behind `--reduced`, where that goes first and so many words are behind, and these; raises Refused."""
+    if words[:1] != ["--reduced"] or len(words) < 2 + behind:
         return None, words
     with opened(words[1], "reduced") as reduced:
         return taken(reduced, "reduced", INSTANCE_BYTES), words[2:]
@@ -1790,13 +1800,120 @@ def reduced_in(words):
 
 def limit(paths, words):
     """The same of files; raises Refused."""
-    reduced_text, names = reduced_in(words)
+    reduced_text, names = reduced_in(words, 1)
     with (opened(paths[0], "instance") as instance, opened(paths[1], "plan") as answer,
           opened(paths[2], "certificate") as certificate):
         judged = Instance(taken(instance, "instance", INSTANCE_BYTES))
         chosen = chosen_by(judged, names)
         return limited(judged, taken(answer, "plan", PRINTED_BYTES),
                        taken(certificate, "certificate", CERTIFICATE_BYTES), reduced_text, chosen)
+
+
+# Longer runs
+
+
+@dataclass
+class Runs:
+    """Which processes run longer, whether by thousandths, and by which tick all has to end."""
+
+    chosen: list
+    permille: bool
+    within: int
+
+
+def within(instance, tick):
+    """The instance in which all has to end by a tick."""
+    cut = copy.copy(instance)
+    cut.cluster = instance.cluster | {"horizon": min(instance.horizon, tick)}
+    cut.horizon = cut.cluster["horizon"]
+    return cut
+
+
+def longer(instance, runs, number):
+    """The instance in which these processes run longer with a number."""
+    grown = copy.copy(instance)
+    grown.processes = [
+        replace(process, wcet=process.wcet + (-(-process.wcet * number // 1000) if runs.permille else number)) if p in runs.chosen else process
+        for p, process in enumerate(instance.processes)]
+    return grown
+
+
+def without_room(instance, runs, number):
+    """The first process that has no room for a number between its release and when it has to end; none where each has."""
+    there = longer(instance, runs, number).processes
+    return next((p for p, it in enumerate(there) if it.release + it.wcet > min(it.deadline, instance.horizon)), None)
+
+
+def greatest(holds):
+    """The greatest number with which something holds that holds with each smaller one; none where it doesn't with 0."""
+    low, high = -1, 1000 * TICKS_MOST + 1
+    while high - low > 1:
+        number = (low + high) // 2
+        low, high = (number, high) if holds(number) else (low, number)
+    return None if low < 0 else low
+
+
+def judge_more(instance, runs, number, certificate_text, reduced_text):
+    """Judges that there is no plan with a number; raises Refused."""
+    more = longer(instance, runs, number)
+    if reduced_text is not None and not are_same(more, Instance(reduced_text)):
+        raise Refused(5, "margin reduced")
+    if (low := proved_bound(more, certificate_text)) != more.horizon + 1:
+        raise Refused(5, "margin bound", low)
+
+
+def judge_stays(instance, runs, plan, number):
+    """Judges that a plan stays valid with a number, and not with one more; raises Refused."""
+    own = greatest(lambda x: next(plan_faults(longer(instance, runs, x), plan), None) is None)
+    if own != number:
+        raise Refused(5, "margin own", "none" if own is None else own)
+
+
+def margined(instance, answer, certificate_text, reduced_text, runs):
+    """What an answer shows of how much longer processes may run, and the status; raises Refused. That no plan is valid as they run, or that
+    none was found, is shown by nothing."""
+    line, _, rest = answer.partition(b"\n")
+    form = re.fullmatch(rb"none|margin (\d+)( window (\w+))?|between (\d+) (\d+)|unknown (\d+)", line)
+    if not form or bool(rest) != line.startswith((b"margin", b"between")):
+        raise Refused(5, "margin form")
+    there = within(instance, runs.within)
+    if rest:
+        judge_stays(there, runs, verified(instance, rest, lines_before=1), int(form[1] or form[4]))
+    if form[1] and not form[2]:
+        judge_more(there, runs, int(form[1]) + 1, certificate_text, reduced_text)
+        return line.decode(), 0
+    if certificate_text or reduced_text:
+        raise Refused(5, "margin beside")
+    if form[2] and (full := without_room(there, runs, int(form[1]) + 1)) != next((p for p, it in enumerate(there.processes) if it.name.encode() == form[3]), -1):
+        raise Refused(5, "margin window", "none" if full is None else there.processes[full].name)
+    if form[4] and not int(form[4]) < int(form[5]):
+        raise Refused(5, "margin apart")
+    most = greatest(lambda x: without_room(there, runs, x) is None)
+    if (form[5] or form[6]) and most is not None and int(form[5] or form[6]) > most:
+        raise Refused(5, "margin most", most)
+    return line.decode(), 10 if line == b"none" else 0 if form[1] else 11
+
+
+def runs_in(instance, words):
+    """What the words behind the files ask for; raises Refused."""
+    permille, tick, names = False, TICKS_MOST, list(words)
+    while names and names[0] in ("--permille", "--within"):
+        if names.pop(0) == "--permille":
+            permille = True
+        else:
+            tick = number_of(names.pop(0) if names else "", 1, TICKS_MOST)
+    return Runs(chosen_by(instance, names, "margin") if names else list(range(len(instance.processes))), permille, tick)
+
+
+def margin(paths, words):
+    """The same of files; raises Refused."""
+    reduced_text, words = reduced_in(words, 0)
+    with (opened(paths[0], "instance") as instance, opened(paths[1], "plan") as answer,
+          opened(paths[2], "certificate") as certificate):
+        judged = Instance(taken(instance, "instance", INSTANCE_BYTES))
+        runs = runs_in(judged, words)
+        return margined(judged, taken(answer, "plan", PRINTED_BYTES),
+                        taken(certificate, "certificate", CERTIFICATE_BYTES), reduced_text, runs)
 
 
 def replay(paths, words):
@@ -1870,6 +1987,8 @@ def run(words):
         return replay(words[1:3], words[3:])
     if len(words) >= 5 and words[0] == "limit":
         return limit(words[1:4], words[4:])
+    if len(words) >= 4 and words[0] == "margin":
+        return margin(words[1:4], words[4:])
     if len(words) >= 2 and words[0] == "why":
         return why(words[1:])
     command, what, most = command_of(words)
