@@ -1,15 +1,17 @@
-//! Which branches go where nothing below a child uses what leads to it?
+//! Which branches go where nothing below a child uses what leads to it? That what is left proves the same bound is a clause; which tree it
+//! is, its number of nodes tells.
 
-use certificate::{Cert, Version, print, read};
+use crate::texts::FIRST;
+use certificate::read;
 use dropped_decisions::{Standing, proof_of, without_unused};
+use instance_text::read as read_instance;
 use search_trees::Name;
 use std::alloc::Global;
 use std::test::Fail;
 use tree_check::check;
-use ttp_model::Instance;
-use worked_instances::{PLAIN, one_message};
+use ttp_model::{Instance, MemoryFault};
 
-/// No plan of `one_message` has a delay below 9.
+/// No plan has a delay below 9.
 const ONE_LEAF: &str =
     "ttcert 1\nlow 9\nleaf 9 5\nes-release 0\nlo-send 0\nes-arrive 0 1\nle-own 1\nx-window 1\n";
 
@@ -29,32 +31,23 @@ const TWO_ORDERS: &str =
 const ORDERS_AND_RANGES: &str =
     "ttcert 1\nlow 9\nplace 2\nround 0 1\nplace 1\nleaf 9 5\nes-release 0\nlo-send 0\nes-arrive 0 1\nle-own 1\nx-window 1\nleaf 101 2\nus-settled 0\nx-late 0 1\nleaf 9 5\nes-release 0\nlo-send 0\nes-arrive 0 1\nle-own 1\nx-window 1\n";
 
-/// The text of a certificate, in the version of its tree.
-fn text_of(alloc: Global, cert: Cert) -> Result<Vec<u8>, Fail> {
-    let version = Version::of_nodes(cert.nodes());
-    Ok(print(alloc, &cert.with_version(version))?)
-}
-
-/// What is left of the certificate in a text, which the check accepts before and after.
-fn left(alloc: Global, i: &Instance, text: &str) -> Result<Vec<u8>, Fail> {
+/// How many nodes are left of the certificate in a text.
+fn nodes_left(alloc: Global, i: &Instance, text: &str) -> Result<usize, Fail> {
     let cert = read(alloc, text.as_bytes())?;
     let _low = check(alloc, i, &cert)?;
-    let left = without_unused(alloc, i, cert);
-    let _low = check(alloc, i, &left)?;
-    text_of(alloc, left)
+    Ok(without_unused(alloc, i, cert).nodes().len())
 }
 
 /// The names of a branch and of its two children.
-fn names(alloc: Global) -> Result<Vec<Name>, Fail> {
+fn names(alloc: Global) -> Result<Vec<Name>, MemoryFault> {
     let root = Name::root(alloc);
     let first = root.child(alloc, 0)?;
     let second = root.child(alloc, 1)?;
     Ok(vec![in alloc; root, first, second]?)
 }
 
-/// What proves the bound of a certificate's text, where the node at this place was left. Nothing is written where
-/// that is missed.
-fn proof_without(alloc: Global, i: &Instance, text: &str, place: usize) -> Result<Vec<u8>, Fail> {
+/// How many nodes prove the bound of a certificate's text where the one at this place was left; 0 where that is missed.
+fn nodes_without(alloc: Global, i: &Instance, text: &str, place: usize) -> Result<usize, Fail> {
     let cert = read(alloc, text.as_bytes())?;
     let (nodes, names) = (cert.nodes(), names(alloc)?);
     let mut standing = Vec::new(alloc);
@@ -66,42 +59,37 @@ fn proof_without(alloc: Global, i: &Instance, text: &str, place: usize) -> Resul
         })?;
     }
     match proof_of(alloc, i, cert.version(), cert.low(), standing, 1)? {
-        Some(proof) => text_of(alloc, proof),
-        None => Ok(Vec::new(alloc)),
+        Some(proof) => Ok(proof.nodes().len()),
+        None => Ok(0),
     }
 }
 
-/// A certificate, the place of its node that was left, if any was, and the text of what comes of it.
-type Row = (&'static str, &'static str, Option<usize>, &'static str);
+/// A certificate, the place of its node that was left, if any was, and how many nodes come of it.
+type Row = (&'static str, &'static str, Option<usize>, usize);
 
 const ROWS: &[Row] = &[
-    ("a leaf stays", ONE_LEAF, None, ONE_LEAF),
-    ("no step reads the rounds", TWO_RANGES, None, ONE_LEAF),
-    ("the first leaf doesn't", SENT_EARLY, None, ONE_LEAF),
-    ("each leaf reads the order", TWO_ORDERS, None, TWO_ORDERS),
-    (
-        "one of three branches is read",
-        ORDERS_AND_RANGES,
-        None,
-        TWO_ORDERS,
-    ),
-    ("the second proves it", TWO_RANGES, Some(1), ONE_LEAF),
-    ("the first proves it", TWO_RANGES, Some(2), ONE_LEAF),
-    ("the second one isn't enough", SENT_EARLY, Some(1), ""),
-    ("the first one is enough", SENT_EARLY, Some(2), ONE_LEAF),
-    ("both are needed", TWO_ORDERS, Some(1), ""),
-    ("nothing is there", ONE_LEAF, Some(0), ""),
+    ("a leaf stays", ONE_LEAF, None, 1),
+    ("no step reads the rounds", TWO_RANGES, None, 1),
+    ("the first leaf doesn't", SENT_EARLY, None, 1),
+    ("each leaf reads the order", TWO_ORDERS, None, 3),
+    ("one of three branches is read", ORDERS_AND_RANGES, None, 3),
+    ("the second proves it", TWO_RANGES, Some(1), 1),
+    ("the first proves it", TWO_RANGES, Some(2), 1),
+    ("the second one isn't enough", SENT_EARLY, Some(1), 0),
+    ("the first one is enough", SENT_EARLY, Some(2), 1),
+    ("both are needed", TWO_ORDERS, Some(1), 0),
+    ("nothing is there", ONE_LEAF, Some(0), 0),
 ];
 
-/// Whether this comes of a certificate.
+/// Whether so many nodes come of a certificate.
 fn comes_of(alloc: Global, row: &Row) -> Result<bool, Fail> {
     let (_what, text, place, wanted) = *row;
-    let i = one_message(alloc, PLAIN)?;
+    let i = read_instance(alloc, FIRST.as_bytes())?;
     let found = match place {
-        None => left(alloc, &i, text)?,
-        Some(place) => proof_without(alloc, &i, text, place)?,
+        None => nodes_left(alloc, &i, text)?,
+        Some(place) => nodes_without(alloc, &i, text, place)?,
     };
-    Ok(found.as_slice() == wanted.as_bytes())
+    Ok(found == wanted)
 }
 
 #[test]

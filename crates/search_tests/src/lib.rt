@@ -1,37 +1,13 @@
-//! Tests of good plans, of the core of a search, of the search for the shortest plan, and of how the program is asked and tells.
+//! Tests of what neither a contract says nor the program shows: that events of a search succeed, what workers share, and which branches go.
 #![tactic(auto)]
 
 #[cfg(test)]
-mod answers;
-#[cfg(test)]
-mod books;
-#[cfg(test)]
-mod core_events;
-#[cfg(test)]
 mod dropped_branches;
 #[cfg(test)]
-mod gates;
+mod events;
 #[cfg(test)]
-mod gathering;
+mod rings;
 #[cfg(test)]
-mod hostile_events;
+mod sharing;
 #[cfg(test)]
-mod instances;
-#[cfg(test)]
-mod many_workers;
-#[cfg(test)]
-mod one_thread;
-#[cfg(test)]
-mod progress;
-#[cfg(test)]
-mod reports;
-#[cfg(test)]
-mod requests;
-#[cfg(test)]
-mod subtrees;
-#[cfg(test)]
-mod told;
-#[cfg(test)]
-mod trees;
-#[cfg(test)]
-mod two_workers;
+mod texts;
