@@ -4,7 +4,7 @@ use Rattle.command_line.specs.declared.words.Request.{Request}
 use Rattle.command_line.specs.declared.words.Request.TheVariants.{OfRounds, OnFiles, Solve, Why as Asking, Limit as Limiting, Margin as Lengthening}
 use Rattle.command_line.specs.declared.words.Effort.{Effort}
 use Rattle.command_line.specs.declared.words.Search.{Search}
-use Rattle.command_line.specs.declared.words.Why.{Why}
+use Rattle.command_line.specs.declared.words.Question.{Question}
 use Rattle.command_line.specs.declared.words.Limit.{Limit}
 use Rattle.command_line.specs.declared.words.Margin.{Margin}
 use Rattle.command_line.specs.declared.words.Task.{Task}
@@ -42,35 +42,29 @@ pub record IsSoundSearch (search : Search) : Type 0 where
   pub kept : IfSome search.kept (λ file. IsOtherFile file.now search.instance.now)
   pub both : IfSome search.kept (λ file. IfSome search.certificate (λ other. IsOtherFile file.now other.now))
 
--- the same of a search for what leaves no plan: it reads the instance alone
-pub record IsSoundWhy (why : Why) : Type 0 where
-  pub effort : IsSoundEffort why.effort
-  pub certificate : IfSome why.certificate (λ file. IsOtherFile file.now why.instance.now)
-  pub reduced : IfSome why.reduced (λ file. IsOtherFile file.now why.instance.now)
-  pub both : IfSome why.reduced (λ file. IfSome why.certificate (λ other. IsOtherFile file.now other.now))
+-- the same of a question: it reads the instance alone
+pub record IsSoundQuestion (question : Question) : Type 0 where
+  pub effort : IsSoundEffort question.effort
+  pub certificate : IfSome question.certificate (λ file. IsOtherFile file.now question.instance.now)
+  pub reduced : IfSome question.reduced (λ file. IsOtherFile file.now question.instance.now)
+  pub both : IfSome question.reduced (λ file. IfSome question.certificate (λ other. IsOtherFile file.now other.now))
 
--- the same of a search for early ends, which names a process at least
+-- a question of early ends names a process at least
 pub record IsSoundLimit (limit : Limit) : Type 0 where
-  pub effort : IsSoundEffort limit.effort
+  pub question : IsSoundQuestion limit.question
   pub named : 1 ≤ length limit.processes.items
-  pub certificate : IfSome limit.certificate (λ file. IsOtherFile file.now limit.instance.now)
-  pub reduced : IfSome limit.reduced (λ file. IsOtherFile file.now limit.instance.now)
-  pub both : IfSome limit.reduced (λ file. IfSome limit.certificate (λ other. IsOtherFile file.now other.now))
 
--- the same of a search for longer runs, which all end by a tick that can be said
+-- one of longer runs says by which tick all ends
 pub record IsSoundMargin (margin : Margin) : Type 0 where
-  pub effort : IsSoundEffort margin.effort
+  pub question : IsSoundQuestion margin.question
   pub some : 1 ≤ margin.within
   pub few : margin.within ≤ most_ticks
-  pub certificate : IfSome margin.certificate (λ file. IsOtherFile file.now margin.instance.now)
-  pub reduced : IfSome margin.reduced (λ file. IsOtherFile file.now margin.instance.now)
-  pub both : IfSome margin.reduced (λ file. IfSome margin.certificate (λ other. IsOtherFile file.now other.now))
 
 abbrev pub IsSound : Request → Type 0
 IsSound (OnFiles instance plan task) = IsSoundTask task
 IsSound (OfRounds instance plan task) = IsSoundRounds task
 IsSound (Solve search) = IsSoundSearch search
-IsSound (Asking why) = IsSoundWhy why
+IsSound (Asking why) = IsSoundQuestion why.question
 IsSound (Limiting limit) = IsSoundLimit limit
 IsSound (Lengthening margin) = IsSoundMargin margin
 IsSound _ = Unit {0}

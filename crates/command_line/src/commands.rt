@@ -27,7 +27,7 @@ fn maybe_words<'a>(arg: Arg<'a>) -> Arg<'a> {
 }
 
 /// An option or a word, where its value stands.
-fn placed<'a>(arg: Arg<'a>, row: Row) -> Result<Arg<'a>, AllocError> {
+fn placed<'a>(arg: Arg<'a>, row: &'static Row) -> Result<Arg<'a>, AllocError> {
     match row.place {
         Place::Flag => Ok(flag(arg, row.name)),
         Place::Option(value) => Ok(option(arg, row.name, value)),
@@ -58,13 +58,13 @@ fn taking<'a>(arg: Arg<'a>, takes: Takes) -> Arg<'a> {
 }
 
 /// A command with its words and options.
-pub fn command_of<'a>(alloc: Global, row: CommandRow) -> Result<Command<'a>, AllocError> {
+pub fn command_of<'a>(alloc: Global, row: &'static CommandRow) -> Result<Command<'a>, AllocError> {
     let mut command = Command::new(alloc, row.name).about(row.about);
     if let Some(after) = row.after {
         command = command.after_help(after);
     }
     for row in row.rows {
-        let arg = placed(Arg::new(alloc, row.name).help(row.help), *row)?;
+        let arg = placed(Arg::new(alloc, row.name).help(row.help), row)?;
         command = command.arg(taking(arg, row.takes))?;
     }
     Ok(command)

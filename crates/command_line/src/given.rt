@@ -48,19 +48,43 @@ fn is_named_by(alloc: Global, file: &str, other: Option<&str>) -> Result<bool, A
     }
 }
 
+/// The number that a word says, which the row takes.
+fn number_of<'a>(row: &'static Row, word: &'a str) -> Result<u64, Misuse<'a>>
+    ensures { IfOk result (IsIn row.now.takes) }
+{
+    let Takes::Number(range) = row.takes else {
+        return Err(Misuse::Missing);
+    };
+    match range.read(word) {
+        Some(number) => Ok(number),
+        None => Err(Misuse::Number(row, range, word)),
+    }
+}
+
+/// The same of 32 bits.
+fn u32_of<'a>(row: &'static Row, word: &'a str) -> Result<u32, Misuse<'a>>
+    ensures { IfOk result (IsIn row.now.takes) }
+{
+    let number = number_of(row, word)?;
+    if number > u32::MAX as u64 {
+        return Err(Misuse::Missing);
+    }
+    Ok(number as u32)
+}
+
 impl<'m, 'a> Given<'m, 'a> {
     /// Whether a flag is used.
-    pub fn flag(&self, row: Row) -> bool {
+    pub fn flag(self, row: &Row) -> bool {
         self.matches.get_flag(row.name)
     }
 
     /// The text of a row that need not be given.
-    pub fn text_if_any(&self, row: Row) -> Option<&'a str> {
+    pub fn text_if_any(self, row: &Row) -> Option<&'a str> {
         self.matches.get_str(row.name)
     }
 
     /// The text of a row.
-    pub fn text(&self, row: Row) -> Result<&'a str, Misuse<'a>> {
+    pub fn text(self, row: &Row) -> Result<&'a str, Misuse<'a>> {
         match self.text_if_any(row) {
             Some(text) => Ok(text),
             None => Err(Misuse::Missing),
@@ -68,59 +92,64 @@ impl<'m, 'a> Given<'m, 'a> {
     }
 
     /// The texts of a row, where there are any.
-    pub fn texts(self, row: Row) -> Option<&'m [&'a str]> {
+    pub fn texts(self, row: &Row) -> Option<&'m [&'a str]> {
         self.matches.get_strs(row.name)
     }
 
+    /// The same as a list of its own, empty where there are none.
+    pub fn list(self, alloc: Global, row: &Row) -> Result<Vec<&'a str>, AllocError> {
+        match self.texts(row) {
+            Some(texts) => Vec::from_slice(alloc, texts),
+            None => Ok(Vec::new(alloc)),
+        }
+    }
+
     /// The number of a row.
-    pub fn number(&self, row: Row) -> Result<u64, Misuse<'a>>
-        ensures { IfOk result (IsIn row.takes) }
+    pub fn number(self, row: &'static Row) -> Result<u64, Misuse<'a>>
+        ensures { IfOk result (IsIn row.now.takes) }
     {
-        let Takes::Number(range) = row.takes else {
-            return Err(Misuse::Missing);
-        };
-        let word = self.text(row)?;
-        match range.read(word) {
-            Some(number) => Ok(number),
-            None => Err(Misuse::Number(row, range, word)),
+        match self.text_if_any(row) {
+            Some(word) => number_of(row, word),
+            None => Err(Misuse::Missing),
         }
     }
 
     /// The number of a row that need not be given.
-    pub fn number_if_any(&self, row: Row) -> Result<Option<u64>, Misuse<'a>>
-        ensures { IfOk result (λ number. IfSome number (IsIn row.takes)) }
+    pub fn number_if_any(self, row: &'static Row) -> Result<Option<u64>, Misuse<'a>>
+        ensures { IfOk result (λ number. IfSome number (IsIn row.now.takes)) }
     {
-        if self.text_if_any(row).is_none() {
+        let Some(word) = self.text_if_any(row) else {
             return Ok(None);
-        }
-        let number = self.number(row)?;
+        };
+        let number = number_of(row, word)?;
         Ok(Some(number))
     }
 
     /// The number of a row whose range is one of 32 bits.
-    pub fn u32(&self, row: Row) -> Result<u32, Misuse<'a>>
-        ensures { IfOk result (IsIn row.takes) }
+    pub fn u32(self, row: &'static Row) -> Result<u32, Misuse<'a>>
+        ensures { IfOk result (IsIn row.now.takes) }
     {
-        match u32::try_from(self.number(row)?) {
-            Ok(number) => Ok(number),
-            Err(_) => Err(Misuse::Missing),
+        match self.text_if_any(row) {
+            Some(word) => u32_of(row, word),
+            None => Err(Misuse::Missing),
         }
     }
 
     /// The same of a row that need not be given.
-    pub fn u32_if_any(&self, row: Row) -> Result<Option<u32>, Misuse<'a>>
-        ensures { IfOk result (λ number. IfSome number (IsIn row.takes)) }
+    pub fn u32_if_any(self, row: &'static Row) -> Result<Option<u32>, Misuse<'a>>
+        ensures { IfOk result (λ number. IfSome number (IsIn row.now.takes)) }
     {
-        if self.text_if_any(row).is_none() {
+        let Some(word) = self.text_if_any(row) else {
             return Ok(None);
-        }
-        let number = self.u32(row)?;
+        };
+        let number = u32_of(row, word)?;
         Ok(Some(number))
     }
 
     /// The form that a row names.
-    pub fn form(&self, row: Row) -> Result<AnswerForm, Misuse<'a>> {
-        match form_named(self.text(row)?) {
+    pub fn form(self, row: &Row) -> Result<AnswerForm, Misuse<'a>> {
+        let name = self.text(row)?;
+        match form_named(name) {
             Some(form) => Ok(form),
             None => Err(Misuse::Missing),
         }
@@ -128,9 +157,9 @@ impl<'m, 'a> Given<'m, 'a> {
 
     /// The name of a file that a row has written, which by its name is neither the instance's nor another one.
     pub fn written(
-        &self,
+        self,
         alloc: Global,
-        row: Row,
+        row: &'static Row,
         instance: &str,
         other: Option<&str>,
     ) -> Result<Option<&'a str>, Misuse<'a>>

@@ -9,7 +9,9 @@ mod names;
 mod options;
 mod refusal;
 mod rows;
+mod searching;
 mod table;
+mod tasks;
 mod words;
 
 pub use asking::request_in;
@@ -19,6 +21,6 @@ pub use refusal::refuse;
 pub use rows::Row;
 pub use table::Asks;
 pub use words::{
-    AnswerForm, Effort, Explained, Limit, Margin, Request, RoundsTask, Search, Task, VERSION, Why,
-    all,
+    AnswerForm, Effort, Explained, Limit, Margin, Question, Request, RoundsTask, Search, Task,
+    VERSION, Why, all,
 };

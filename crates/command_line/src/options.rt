@@ -9,7 +9,7 @@ use ttp_model::MOST_TICKS;
 // ---- words
 
 /// The file of an instance.
-pub const INSTANCE: Row = Row {
+pub const INSTANCE: &Row = &Row {
     name: "INSTANCE",
     place: Place::Word,
     takes: Takes::Text,
@@ -17,7 +17,7 @@ pub const INSTANCE: Row = Row {
 };
 
 /// The file of a plan.
-pub const PLAN: Row = Row {
+pub const PLAN: &Row = &Row {
     name: "PLAN",
     place: Place::Word,
     takes: Takes::Text,
@@ -25,7 +25,7 @@ pub const PLAN: Row = Row {
 };
 
 /// The file of a plan, or of what a search printed.
-pub const ANY_PLAN: Row = Row {
+pub const ANY_PLAN: &Row = &Row {
     name: "PLAN",
     place: Place::Word,
     takes: Takes::Text,
@@ -33,7 +33,7 @@ pub const ANY_PLAN: Row = Row {
 };
 
 /// The file of a plan that is to be explained.
-pub const EXPLAINED_PLAN: Row = Row {
+pub const EXPLAINED_PLAN: &Row = &Row {
     name: "PLAN",
     place: Place::MaybeWord,
     takes: Takes::Text,
@@ -41,7 +41,7 @@ pub const EXPLAINED_PLAN: Row = Row {
 };
 
 /// The file of a certificate.
-pub const CERTIFICATE: Row = Row {
+pub const CERTIFICATE: &Row = &Row {
     name: "CERT",
     place: Place::Word,
     takes: Takes::Text,
@@ -49,7 +49,7 @@ pub const CERTIFICATE: Row = Row {
 };
 
 /// Frames that are lost.
-pub const LOSSES: Row = Row {
+pub const LOSSES: &Row = &Row {
     name: "LOSS",
     place: Place::MaybeWords,
     takes: Takes::Text,
@@ -57,7 +57,7 @@ pub const LOSSES: Row = Row {
 };
 
 /// The processes that are to end early.
-pub const PROCESSES: Row = Row {
+pub const PROCESSES: &Row = &Row {
     name: "PROCESS",
     place: Place::Words,
     takes: Takes::Text,
@@ -65,7 +65,7 @@ pub const PROCESSES: Row = Row {
 };
 
 /// The processes that are to run longer.
-pub const RUNNERS: Row = Row {
+pub const RUNNERS: &Row = &Row {
     name: "PROCESS",
     place: Place::MaybeWords,
     takes: Takes::Text,
@@ -73,7 +73,7 @@ pub const RUNNERS: Row = Row {
 };
 
 /// How many ticks a period has.
-pub const PERIOD_TICKS: Row = Row {
+pub const PERIOD_TICKS: &Row = &Row {
     name: "PERIOD",
     place: Place::Word,
     takes: Takes::Number(Range {
@@ -85,7 +85,7 @@ pub const PERIOD_TICKS: Row = Row {
 };
 
 /// The file of the instance before a change.
-pub const OLD_INSTANCE: Row = Row {
+pub const OLD_INSTANCE: &Row = &Row {
     name: "OLD_INSTANCE",
     place: Place::Word,
     takes: Takes::Text,
@@ -93,7 +93,7 @@ pub const OLD_INSTANCE: Row = Row {
 };
 
 /// And of its plan.
-pub const OLD_PLAN: Row = Row {
+pub const OLD_PLAN: &Row = &Row {
     name: "OLD_PLAN",
     place: Place::Word,
     takes: Takes::Text,
@@ -101,7 +101,7 @@ pub const OLD_PLAN: Row = Row {
 };
 
 /// The file of the instance behind it.
-pub const NEW_INSTANCE: Row = Row {
+pub const NEW_INSTANCE: &Row = &Row {
     name: "NEW_INSTANCE",
     place: Place::Word,
     takes: Takes::Text,
@@ -109,7 +109,7 @@ pub const NEW_INSTANCE: Row = Row {
 };
 
 /// And of its plan.
-pub const NEW_PLAN: Row = Row {
+pub const NEW_PLAN: &Row = &Row {
     name: "NEW_PLAN",
     place: Place::Word,
     takes: Takes::Text,
@@ -128,7 +128,7 @@ const OVER_OTHER: &str = "another file of the command would be emptied";
 const OVER_KEPT: &str = "a plan kept there would take the place of another file of the search";
 
 /// How many workers search.
-pub const WORKERS: Row = Row {
+pub const WORKERS: &Row = &Row {
     name: "workers",
     place: Place::Option("N"),
     takes: Takes::Number(Range {
@@ -140,7 +140,7 @@ pub const WORKERS: Row = Row {
 };
 
 /// How many subtrees are searched at most.
-pub const BUDGET: Row = Row {
+pub const BUDGET: &Row = &Row {
     name: "budget",
     place: Place::Option("N"),
     takes: Takes::Number(Range {
@@ -152,7 +152,7 @@ pub const BUDGET: Row = Row {
 };
 
 /// How many subtrees each of several searches has at most.
-pub const SEARCH_BUDGET: Row = Row {
+pub const SEARCH_BUDGET: &Row = &Row {
     name: "budget",
     place: Place::Option("N"),
     takes: Takes::Number(Range {
@@ -164,7 +164,7 @@ pub const SEARCH_BUDGET: Row = Row {
 };
 
 /// How many ticks a plan takes at most that is good enough.
-pub const UNTIL: Row = Row {
+pub const UNTIL: &Row = &Row {
     name: "until",
     place: Place::Option("D"),
     takes: Takes::Number(Range {
@@ -176,7 +176,7 @@ pub const UNTIL: Row = Row {
 };
 
 /// By how many ticks a plan may be longer than the least is known to be.
-pub const GAP: Row = Row {
+pub const GAP: &Row = &Row {
     name: "gap",
     place: Place::Option("N"),
     takes: Takes::Number(Range {
@@ -188,7 +188,7 @@ pub const GAP: Row = Row {
 };
 
 /// How many seconds after the start a search ends.
-pub const SECONDS: Row = Row {
+pub const SECONDS: &Row = &Row {
     name: "seconds",
     place: Place::Option("N"),
     takes: Takes::Number(Range {
@@ -200,7 +200,7 @@ pub const SECONDS: Row = Row {
 };
 
 /// The plan with which a search begins.
-pub const START: Row = Row {
+pub const START: &Row = &Row {
     name: "start",
     place: Place::Option("PLAN"),
     takes: Takes::Text,
@@ -208,7 +208,7 @@ pub const START: Row = Row {
 };
 
 /// The file of a certificate that is written.
-pub const CERT: Row = Row {
+pub const CERT: &Row = &Row {
     name: "cert",
     place: Place::Option("FILE"),
     takes: Takes::File(Written {
@@ -220,7 +220,7 @@ pub const CERT: Row = Row {
 };
 
 /// The file of the certificate that there is no plan.
-pub const CERT_OF_NONE: Row = Row {
+pub const CERT_OF_NONE: &Row = &Row {
     name: "cert",
     place: Place::Option("FILE"),
     takes: Takes::File(Written {
@@ -232,7 +232,7 @@ pub const CERT_OF_NONE: Row = Row {
 };
 
 /// The file of the certificate of the last of several searches.
-pub const CERT_OF_LAST: Row = Row {
+pub const CERT_OF_LAST: &Row = &Row {
     name: "cert",
     place: Place::Option("FILE"),
     takes: Takes::File(Written {
@@ -244,7 +244,7 @@ pub const CERT_OF_LAST: Row = Row {
 };
 
 /// The file of a certificate that is to be explained.
-pub const EXPLAINED_CERT: Row = Row {
+pub const EXPLAINED_CERT: &Row = &Row {
     name: "cert",
     place: Place::InsteadOf("CERT", "PLAN"),
     takes: Takes::Text,
@@ -252,7 +252,7 @@ pub const EXPLAINED_CERT: Row = Row {
 };
 
 /// The file of the best plan so far.
-pub const KEEP: Row = Row {
+pub const KEEP: &Row = &Row {
     name: "keep",
     place: Place::Option("FILE"),
     takes: Takes::File(Written {
@@ -264,7 +264,7 @@ pub const KEEP: Row = Row {
 };
 
 /// Whether a search says how far it is.
-pub const PROGRESS: Row = Row {
+pub const PROGRESS: &Row = &Row {
     name: "progress",
     place: Place::Flag,
     takes: Takes::Nothing,
@@ -272,7 +272,7 @@ pub const PROGRESS: Row = Row {
 };
 
 /// Whether a question says how far its searches are.
-pub const SEARCHES_PROGRESS: Row = Row {
+pub const SEARCHES_PROGRESS: &Row = &Row {
     name: "progress",
     place: Place::Flag,
     takes: Takes::Nothing,
@@ -280,7 +280,7 @@ pub const SEARCHES_PROGRESS: Row = Row {
 };
 
 /// Whether it is told how late all would have to be.
-pub const LATE: Row = Row {
+pub const LATE: &Row = &Row {
     name: "late",
     place: Place::Flag,
     takes: Takes::Nothing,
@@ -288,7 +288,7 @@ pub const LATE: Row = Row {
 };
 
 /// The file of the instance by the constraints that leave no plan.
-pub const REDUCED: Row = Row {
+pub const REDUCED: &Row = &Row {
     name: "reduced",
     place: Place::Option("FILE"),
     takes: Takes::File(Written {
@@ -300,7 +300,7 @@ pub const REDUCED: Row = Row {
 };
 
 /// The file of the instance of the last of several searches.
-pub const SEARCHED: Row = Row {
+pub const SEARCHED: &Row = &Row {
     name: "reduced",
     place: Place::Option("FILE"),
     takes: Takes::File(Written {
@@ -312,7 +312,7 @@ pub const SEARCHED: Row = Row {
 };
 
 /// Whether it is counted in thousandths by how much processes run longer.
-pub const PERMILLE: Row = Row {
+pub const PERMILLE: &Row = &Row {
     name: "permille",
     place: Place::Flag,
     takes: Takes::Nothing,
@@ -320,7 +320,7 @@ pub const PERMILLE: Row = Row {
 };
 
 /// By which tick all has to end.
-pub const WITHIN: Row = Row {
+pub const WITHIN: &Row = &Row {
     name: "within",
     place: Place::Option("D"),
     takes: Takes::Number(Range {
@@ -332,7 +332,7 @@ pub const WITHIN: Row = Row {
 };
 
 /// The file of the certificate that there is no plan where processes run longer by one more.
-pub const CERT_OF_MORE: Row = Row {
+pub const CERT_OF_MORE: &Row = &Row {
     name: "cert",
     place: Place::Option("FILE"),
     takes: Takes::File(Written {
@@ -344,7 +344,7 @@ pub const CERT_OF_MORE: Row = Row {
 };
 
 /// The file of the instance in which processes run longer by one more.
-pub const WITH_MORE: Row = Row {
+pub const WITH_MORE: &Row = &Row {
     name: "reduced",
     place: Place::Option("FILE"),
     takes: Takes::File(Written {
@@ -356,7 +356,7 @@ pub const WITH_MORE: Row = Row {
 };
 
 /// In which form an answer is written.
-pub const FORMAT: Row = Row {
+pub const FORMAT: &Row = &Row {
     name: "format",
     place: Place::Option("FORMAT"),
     takes: Takes::OneOf(&["text", "json"]),
@@ -364,7 +364,7 @@ pub const FORMAT: Row = Row {
 };
 
 /// Of how many rounds tables are.
-pub const ROUNDS: Row = Row {
+pub const ROUNDS: &Row = &Row {
     name: "rounds",
     place: Place::Option("N"),
     takes: Takes::Number(Range {
@@ -376,7 +376,7 @@ pub const ROUNDS: Row = Row {
 };
 
 /// Which table of a plan is written.
-pub const TABLE: Row = Row {
+pub const TABLE: &Row = &Row {
     name: "table",
     place: Place::Option("TABLE"),
     takes: Takes::AnyOf(&["processes", "slots", "messages"]),
@@ -384,7 +384,7 @@ pub const TABLE: Row = Row {
 };
 
 /// In which form the schedule of a plan is written.
-pub const SCHEDULE_FORMAT: Row = Row {
+pub const SCHEDULE_FORMAT: &Row = &Row {
     name: "format",
     place: Place::Option("FORMAT"),
     takes: Takes::OneOf(&["csv", "c", "json", "trace"]),
@@ -392,7 +392,7 @@ pub const SCHEDULE_FORMAT: Row = Row {
 };
 
 /// Whose loads are written.
-pub const NODE: Row = Row {
+pub const NODE: &Row = &Row {
     name: "node",
     place: Place::Option("NODE"),
     takes: Takes::Text,
@@ -400,7 +400,7 @@ pub const NODE: Row = Row {
 };
 
 /// How wide a picture is, in pixels.
-pub const WIDTH: Row = Row {
+pub const WIDTH: &Row = &Row {
     name: "width",
     place: Place::Option("PX"),
     takes: Takes::Number(Range {
@@ -412,7 +412,7 @@ pub const WIDTH: Row = Row {
 };
 
 /// Whether only slots in use are drawn.
-pub const USED: Row = Row {
+pub const USED: &Row = &Row {
     name: "used",
     place: Place::Flag,
     takes: Takes::Nothing,

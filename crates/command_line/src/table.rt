@@ -33,13 +33,13 @@ pub enum Asks {
 pub struct CommandRow {
     pub name: &'static str,
     pub about: &'static str,
-    pub rows: &'static [Row],
+    pub rows: &'static [&'static Row],
     /// What help says behind them.
     pub after: Option<&'static str>,
 }
 
 /// Searches for a shortest plan.
-const SOLVE: CommandRow = CommandRow {
+const SOLVE: &CommandRow = &CommandRow {
     name: "solve",
     about: "Prints a valid plan with the least delay, or `none`, or bounds where the search is stopped",
     rows: &[
@@ -51,7 +51,7 @@ const SOLVE: CommandRow = CommandRow {
 };
 
 /// Tells why there is no plan.
-const WHY: CommandRow = CommandRow {
+const WHY: &CommandRow = &CommandRow {
     name: "why",
     about: "Tells which constraints of an instance leave no plan",
     rows: &[
@@ -71,7 +71,7 @@ const WHY: CommandRow = CommandRow {
 };
 
 /// Tells how early processes can end.
-const LIMIT: CommandRow = CommandRow {
+const LIMIT: &CommandRow = &CommandRow {
     name: "limit",
     about: "Prints the least tick by which all these processes can end, and a plan that does it",
     rows: &[
@@ -91,7 +91,7 @@ const LIMIT: CommandRow = CommandRow {
 };
 
 /// Tells how much longer processes may run.
-const MARGIN: CommandRow = CommandRow {
+const MARGIN: &CommandRow = &CommandRow {
     name: "margin",
     about: "Prints by how much longer all these processes may run at once, and a plan that stays valid then",
     rows: &[
@@ -113,7 +113,7 @@ const MARGIN: CommandRow = CommandRow {
 };
 
 /// Verifies a plan.
-const VERIFY: CommandRow = CommandRow {
+const VERIFY: &CommandRow = &CommandRow {
     name: "verify",
     about: "Checks a plan, and prints `valid` with its delay in ticks",
     rows: &[INSTANCE, PLAN, FORMAT],
@@ -121,7 +121,7 @@ const VERIFY: CommandRow = CommandRow {
 };
 
 /// Checks a certificate.
-const CHECK: CommandRow = CommandRow {
+const CHECK: &CommandRow = &CommandRow {
     name: "check",
     about: "Checks a certificate, and prints `bound` with the delay that no plan is below",
     rows: &[INSTANCE, CERTIFICATE],
@@ -129,7 +129,7 @@ const CHECK: CommandRow = CommandRow {
 };
 
 /// Judges a plan by a certificate.
-const JUDGE: CommandRow = CommandRow {
+const JUDGE: &CommandRow = &CommandRow {
     name: "judge",
     about: "Checks a plan and a certificate, and prints whether no plan is shorter",
     rows: &[INSTANCE, ANY_PLAN, CERTIFICATE, FORMAT],
@@ -139,7 +139,7 @@ const JUDGE: CommandRow = CommandRow {
 };
 
 /// Explains an instance, a plan or a certificate.
-const EXPLAIN: CommandRow = CommandRow {
+const EXPLAIN: &CommandRow = &CommandRow {
     name: "explain",
     about: "Tells in sentences why an instance, a plan or a certificate is refused, and why a valid plan ends when it does",
     rows: &[INSTANCE, EXPLAINED_PLAN, EXPLAINED_CERT, FORMAT],
@@ -149,7 +149,7 @@ const EXPLAIN: CommandRow = CommandRow {
 };
 
 /// Prints what is loaded.
-const TABLES: CommandRow = CommandRow {
+const TABLES: &CommandRow = &CommandRow {
     name: "tables",
     about: "Prints the node tables of a valid plan, and its guardian windows",
     rows: &[INSTANCE, PLAN, ROUNDS],
@@ -157,7 +157,7 @@ const TABLES: CommandRow = CommandRow {
 };
 
 /// Tells of a plan that repeats.
-const PERIOD: CommandRow = CommandRow {
+const PERIOD: &CommandRow = &CommandRow {
     name: "period",
     about: "Prints how the rounds of a valid plan lie in a period, and which rounds would divide it",
     rows: &[INSTANCE, PLAN, PERIOD_TICKS],
@@ -167,7 +167,7 @@ const PERIOD: CommandRow = CommandRow {
 };
 
 /// Replays a cycle.
-const REPLAY: CommandRow = CommandRow {
+const REPLAY: &CommandRow = &CommandRow {
     name: "replay",
     about: "Prints what membership does in one cycle of a valid plan",
     rows: &[INSTANCE, PLAN, LOSSES],
@@ -175,7 +175,7 @@ const REPLAY: CommandRow = CommandRow {
 };
 
 /// Prints a table of a plan.
-const SCHEDULE: CommandRow = CommandRow {
+const SCHEDULE: &CommandRow = &CommandRow {
     name: "schedule",
     about: "Prints the schedule of a valid plan: a table of comma-separated values, what nodes are loaded with, or a trace",
     rows: &[INSTANCE, PLAN, TABLE, SCHEDULE_FORMAT, NODE],
@@ -185,7 +185,7 @@ const SCHEDULE: CommandRow = CommandRow {
 };
 
 /// Draws a plan.
-const DRAW: CommandRow = CommandRow {
+const DRAW: &CommandRow = &CommandRow {
     name: "draw",
     about: "Prints a picture of a valid plan's cycle, as SVG",
     rows: &[INSTANCE, PLAN, WIDTH, USED],
@@ -193,7 +193,7 @@ const DRAW: CommandRow = CommandRow {
 };
 
 /// Compares two releases.
-const COMPARE: CommandRow = CommandRow {
+const COMPARE: &CommandRow = &CommandRow {
     name: "compare",
     about: "Tells which nodes a change of an instance and its plan touches, and what is different of the plan",
     rows: &[OLD_INSTANCE, OLD_PLAN, NEW_INSTANCE, NEW_PLAN, FORMAT],
@@ -220,8 +220,8 @@ pub const COMMANDS: &[Asks] = &[
     Asks::Compare,
 ];
 
-/// The row of a command. A list of all rows would be more than a proof may unfold at once.
-pub fn row_of(asks: Asks) -> CommandRow {
+/// The row of a command.
+pub fn row_of(asks: Asks) -> &'static CommandRow {
     match asks {
         Asks::Solve => SOLVE,
         Asks::Why => WHY,

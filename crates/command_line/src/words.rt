@@ -7,7 +7,7 @@ use std::io;
 use std::rt::Env;
 
 /// In which form an answer is written.
-#[derive(Clone, Copy, Debug, PartialEq, Eq)]
+#[derive(Clone, Copy, Debug)]
 pub enum AnswerForm {
     Text,
     /// As one JSON object.
@@ -32,7 +32,7 @@ pub enum Task<'a> {
 }
 
 /// What to tell of the rounds of a plan's cycle.
-#[derive(Clone, Copy, Debug, PartialEq, Eq)]
+#[derive(Clone, Copy, Debug)]
 pub enum RoundsTask {
     /// How they lie in a period of so many ticks, 1 to 1,000,000.
     Period(u64),
@@ -41,7 +41,7 @@ pub enum RoundsTask {
 }
 
 /// What is to be explained.
-#[derive(Clone, Copy, Debug, PartialEq, Eq)]
+#[derive(Clone, Copy, Debug)]
 pub enum Explained<'a> {
     /// The instance alone.
     Instance,
@@ -52,7 +52,7 @@ pub enum Explained<'a> {
 }
 
 /// How much the searches of a command may take.
-#[derive(Clone, Copy, Debug, PartialEq, Eq)]
+#[derive(Clone, Copy, Debug)]
 pub struct Effort {
     /// How many workers search, 1 to 16.
     pub workers: u32,
@@ -65,7 +65,7 @@ pub struct Effort {
 }
 
 /// How an instance is to be searched.
-#[derive(Clone, Copy, Debug, PartialEq, Eq)]
+#[derive(Clone, Copy, Debug)]
 pub struct Search<'a> {
     pub instance: &'a str,
     /// Where the plan stands with which it begins.
@@ -81,26 +81,10 @@ pub struct Search<'a> {
     pub gap: u32,
 }
 
-/// How it is to be found out why an instance has no plan.
-#[derive(Clone, Copy, Debug, PartialEq, Eq)]
-pub struct Why<'a> {
+/// What several searches of an instance are to answer.
+#[derive(Clone, Copy, Debug)]
+pub struct Question<'a> {
     pub instance: &'a str,
-    /// Where the certificate is written.
-    pub certificate: Option<&'a str>,
-    /// Where the instance by the constraints that leave no plan is written.
-    pub reduced: Option<&'a str>,
-    pub effort: Effort,
-    /// Whether it is to be told how late all would have to be.
-    pub late: bool,
-    pub form: AnswerForm,
-}
-
-/// How early processes of an instance are to end.
-#[derive(Debug, Drop)]
-pub struct Limit<'a> {
-    pub instance: &'a str,
-    /// The names of these processes, in the order of the words.
-    pub processes: Vec<&'a str>,
     /// Where the certificate is written.
     pub certificate: Option<&'a str>,
     /// Where the instance that the certificate is for is written.
@@ -109,22 +93,32 @@ pub struct Limit<'a> {
     pub form: AnswerForm,
 }
 
+/// How it is to be found out why an instance has no plan.
+#[derive(Clone, Copy, Debug)]
+pub struct Why<'a> {
+    pub question: Question<'a>,
+    /// Whether it is to be told how late all would have to be.
+    pub late: bool,
+}
+
+/// How early processes of an instance are to end.
+#[derive(Debug, Drop)]
+pub struct Limit<'a> {
+    pub question: Question<'a>,
+    /// The names of these processes, in the order of the words.
+    pub processes: Vec<&'a str>,
+}
+
 /// By how much longer processes of an instance may run.
 #[derive(Debug, Drop)]
 pub struct Margin<'a> {
-    pub instance: &'a str,
+    pub question: Question<'a>,
     /// The names of these processes, in the order of the words; all where there are none.
     pub processes: Vec<&'a str>,
     /// Whether it is counted in thousandths of execution times, and not in ticks.
     pub thousandths: bool,
     /// By which tick all has to end, 1 to 1,000,000.
     pub within: u32,
-    /// Where the certificate is written.
-    pub certificate: Option<&'a str>,
-    /// Where the instance that the certificate is for is written.
-    pub reduced: Option<&'a str>,
-    pub effort: Effort,
-    pub form: AnswerForm,
 }
 
 /// A command, with the files that it names.

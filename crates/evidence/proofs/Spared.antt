@@ -1,8 +1,7 @@
 -- A request that is sound spares the instance's file.
 use Rattle.std.proofs.Common.{◌≡◌, ◌++◌, ◌∙◌, ℕ, List, Option, None, Some, IfSome, Bor, codes, false, refl, ap, sym}
 use Rattle.command_line.specs.declared.words.Request.{Request}
-use Rattle.command_line.specs.declared.words.Request.TheVariants.{OfRounds, OnFiles, Solve, Why, Check, Judge, Compare, Explain, VerifyBundle, Version}
-use Rattle.command_line.specs.declared.words.Request.TheVariants.{Limit as Limiting, Margin as Lengthening}
+use Rattle.command_line.specs.declared.words.Request.TheVariants.{Solve, Limit as Limiting, Margin as Lengthening}
 use Rattle.command_line.specs.Names.{IsOtherFile, NameOneFile, is_rooted, parts}
 use Rattle.command_line.specs.declared.words.Search.{Search}
 use Rattle.command_line.specs.Requests.{IsApart, IsSound}
@@ -25,15 +24,7 @@ limited name None apart = tt
 limited name (Some file) apart = λ local is. apart (spelled_again name file.now local is)
 
 pub spares : (request : Request) → IsSound request → SparesInstance request
-spares (OnFiles instance plan task) sound = tt
-spares (OfRounds instance plan task) sound = tt
 spares (Solve search) sound = another search search.certificate sound.certificate
-spares (Why why) sound = tt
-spares (Limiting limit) sound = limited limit.instance.now limit.certificate sound.certificate
-spares (Lengthening margin) sound = limited margin.instance.now margin.certificate sound.certificate
-spares (Check instance certificate) sound = tt
-spares (Judge instance plan certificate form) sound = tt
-spares (Compare old_instance old_plan new_instance new_plan form) sound = tt
-spares (Explain instance explained form) sound = tt
-spares VerifyBundle sound = tt
-spares Version sound = tt
+spares (Limiting limit) sound = limited limit.question.instance.now limit.question.certificate sound.question.certificate
+spares (Lengthening margin) sound = limited margin.question.instance.now margin.question.certificate sound.question.certificate
+spares _ sound = tt

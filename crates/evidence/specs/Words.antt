@@ -9,7 +9,7 @@ abbrev pub SparesInstance : Request → Type 0
 SparesInstance (Solve search) =
     IfSome search.certificate (λ file. is_rooted search.instance.now ≡ false → file.now ≡ codes "./" ++ search.instance.now → ⊥)
 SparesInstance (Limit limit) =
-    IfSome limit.certificate (λ file. is_rooted limit.instance.now ≡ false → file.now ≡ codes "./" ++ limit.instance.now → ⊥)
+    IfSome limit.question.certificate (λ file. is_rooted limit.question.instance.now ≡ false → file.now ≡ codes "./" ++ limit.question.instance.now → ⊥)
 SparesInstance (Margin margin) =
-    IfSome margin.certificate (λ file. is_rooted margin.instance.now ≡ false → file.now ≡ codes "./" ++ margin.instance.now → ⊥)
+    IfSome margin.question.certificate (λ file. is_rooted margin.question.instance.now ≡ false → file.now ≡ codes "./" ++ margin.question.instance.now → ⊥)
 SparesInstance _ = Unit {0}

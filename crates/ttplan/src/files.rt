@@ -2,7 +2,7 @@
 
 use crate::hints::{Said, told};
 use crate::judging::refused;
-use command_line::{Asks, Limit, Margin, Search, Why, refuse, written_over};
+use command_line::{Asks, Question, Search, refuse, written_over};
 use command_streams::{End, Fault, Sink, Source};
 use json_commands::CommandLines;
 use std::fs::{self, File, OpenOptions};
@@ -33,38 +33,14 @@ impl<'a> Named<'a> {
         }
     }
 
-    /// The names in a request of `why`.
-    pub fn of_why(why: &Why<'a>) -> Self {
+    /// The names in a question of this command.
+    pub fn of_question(command: Asks, question: &Question<'a>) -> Self {
         Named {
-            command: Asks::Why,
-            instance: why.instance,
+            command,
+            instance: question.instance,
             start: None,
-            certificate: why.certificate,
-            reduced: why.reduced,
-            kept: None,
-        }
-    }
-
-    /// The names in a request of `limit`.
-    pub fn of_limit(limit: &Limit<'a>) -> Self {
-        Named {
-            command: Asks::Limit,
-            instance: limit.instance,
-            start: None,
-            certificate: limit.certificate,
-            reduced: limit.reduced,
-            kept: None,
-        }
-    }
-
-    /// The names in a request of `margin`.
-    pub fn of_margin(margin: &Margin<'a>) -> Self {
-        Named {
-            command: Asks::Margin,
-            instance: margin.instance,
-            start: None,
-            certificate: margin.certificate,
-            reduced: margin.reduced,
+            certificate: question.certificate,
+            reduced: question.reduced,
             kept: None,
         }
     }
@@ -132,71 +108,24 @@ impl Files {
     /// emptied before it is known that none of these is another one of the command, by whatever name, way or link.
     pub fn open<'a>(rt: &HostRuntime, named: &Named<'a>) -> Result<Self, FileFault<'a>> {
         let opened = Opened::of(rt, named)?;
-        if let Some(fault) = opened.fault(named) {
-            take_back(rt, &opened.certificate);
-            take_back(rt, &opened.reduced);
-            return Err(fault);
-        }
-        empty(Sink::Certificate, &opened.certificate)?;
-        empty(Sink::Reduced, &opened.reduced)?;
-        Ok(Files {
-            instance: opened.instance,
-            start: opened.start,
-            certificate: file_of(opened.certificate),
-            reduced: file_of(opened.reduced),
-            kept: opened.kept,
-        })
+        opened.emptied(rt, named)?;
+        Ok(opened.files())
     }
 }
 
-/// The same files, of which those that are written hold what they held.
+/// The files that a command reads.
 #[derive(Drop)]
-struct Opened<'a> {
+struct Sources {
     instance: File,
     start: Option<File>,
-    certificate: Option<Made<'a>>,
-    reduced: Option<Made<'a>>,
-    kept: Option<File>,
 }
 
-impl<'a> Opened<'a> {
-    /// Opens what a command reads, in the order of its words, and then what it writes, which is made where it isn't there.
-    fn of(rt: &HostRuntime, named: &Named<'a>) -> Result<Self, FileFault<'a>> {
-        Ok(Opened {
-            instance: file_to_read(rt, Source::Instance, named.instance)?,
-            start: match named.start {
-                Some(name) => Some(file_to_read(rt, Source::Plan, name)?),
-                None => None,
-            },
-            certificate: file_to_write(rt, Sink::Certificate, named.certificate)?,
-            reduced: file_to_write(rt, Sink::Reduced, named.reduced)?,
-            kept: match named.kept {
-                Some(name) => kept(rt, name)?,
-                None => None,
-            },
-        })
-    }
-
-    /// Why a file that is written is another one of the command, where one is.
-    fn fault(&self, named: &Named<'a>) -> Option<FileFault<'a>> {
-        let command = named.command;
-        if let Some(made) = &self.certificate {
-            if let Some(source) = self.read_as(&made.file) {
-                let over = Some(source);
-                return Some(FileFault::Overwriting(command, Sink::Certificate, made.name, over));
-            }
-        }
-        if let Some(made) = &self.reduced {
-            let over = self.read_as(&made.file);
-            if over.is_some() || self.is_certificate(&made.file) {
-                return Some(FileFault::Overwriting(command, Sink::Reduced, made.name, over));
-            }
-        }
-        match (named.kept, &self.kept) {
-            (Some(name), Some(file)) if is_one(&self.instance, file) || self.is_certificate(file) =>
-                { Some(FileFault::Overwriting(command, Sink::Plan, name, None)) }
-            _ => None,
-        }
+impl Sources {
+    /// Opens them, in the order of the words.
+    fn of<'a>(rt: &HostRuntime, named: &Named<'a>) -> Result<Self, FileFault<'a>> {
+        let instance = file_to_read(rt, Source::Instance, named.instance)?;
+        let start = file_to_start(rt, named.start)?;
+        Ok(Sources { instance, start })
     }
 
     /// As what a file is read, where it is.
@@ -209,6 +138,25 @@ impl<'a> Opened<'a> {
             _ => None,
         }
     }
+}
+
+/// The files that a command writes beside its answer, which hold what they held.
+#[derive(Drop)]
+struct Sheets<'a> {
+    certificate: Option<Made<'a>>,
+    reduced: Option<Made<'a>>,
+}
+
+impl<'a> Sheets<'a> {
+    /// Makes them where they aren't there.
+    fn of(rt: &HostRuntime, named: &Named<'a>) -> Result<Self, FileFault<'a>> {
+        let certificate = file_to_write(rt, Sink::Certificate, named.certificate)?;
+        let reduced = file_to_write(rt, Sink::Reduced, named.reduced)?;
+        Ok(Sheets {
+            certificate,
+            reduced,
+        })
+    }
 
     /// Whether a file is the certificate's.
     fn is_certificate(&self, file: &File) -> bool {
@@ -216,6 +164,100 @@ impl<'a> Opened<'a> {
             Some(made) => is_one(&made.file, file),
             None => false,
         }
+    }
+
+    /// Takes those away that weren't there before.
+    fn take_back(&self, rt: &HostRuntime) {
+        take_back(rt, &self.certificate);
+        take_back(rt, &self.reduced);
+    }
+
+    /// Empties them.
+    fn empty(&self) -> Result<(), FileFault<'a>> {
+        empty(Sink::Certificate, &self.certificate)?;
+        empty(Sink::Reduced, &self.reduced)
+    }
+}
+
+/// All files of a command.
+#[derive(Drop)]
+struct Opened<'a> {
+    sources: Sources,
+    sheets: Sheets<'a>,
+    kept: Option<File>,
+}
+
+impl<'a> Opened<'a> {
+    /// Opens what a command reads, in the order of its words, and then what it writes, which is made where it isn't there.
+    fn of(rt: &HostRuntime, named: &Named<'a>) -> Result<Self, FileFault<'a>> {
+        let sources = Sources::of(rt, named)?;
+        let sheets = Sheets::of(rt, named)?;
+        let kept = kept(rt, named.kept)?;
+        Ok(Opened {
+            sources,
+            sheets,
+            kept,
+        })
+    }
+
+    /// Empties what is written, once it is known that none of it is another file of the command.
+    fn emptied(&self, rt: &HostRuntime, named: &Named<'a>) -> Result<(), FileFault<'a>> {
+        match self.fault(named) {
+            Some(fault) => {
+                self.sheets.take_back(rt);
+                Err(fault)
+            }
+            None => self.sheets.empty(),
+        }
+    }
+
+    /// The files themselves.
+    fn files(self) -> Files {
+        Files {
+            instance: self.sources.instance,
+            start: self.sources.start,
+            certificate: file_of(self.sheets.certificate),
+            reduced: file_of(self.sheets.reduced),
+            kept: self.kept,
+        }
+    }
+
+    /// Why a file that is written is another one of the command, where one is.
+    fn fault(&self, named: &Named<'a>) -> Option<FileFault<'a>> {
+        if let Some(fault) = self.fault_of_certificate(named.command) {
+            return Some(fault);
+        }
+        if let Some(fault) = self.fault_of_reduced(named.command) {
+            return Some(fault);
+        }
+        match (named.kept, &self.kept) {
+            (Some(name), Some(file)) if self.is_spoilt(file) => {
+                Some(FileFault::Overwriting(named.command, Sink::Plan, name, None))
+            }
+            _ => None,
+        }
+    }
+
+    /// The same of the certificate's file.
+    fn fault_of_certificate(&self, command: Asks) -> Option<FileFault<'a>> {
+        let made = self.sheets.certificate.as_ref()?;
+        let over = self.sources.read_as(&made.file)?;
+        Some(FileFault::Overwriting(command, Sink::Certificate, made.name, Some(over)))
+    }
+
+    /// The same of the file of the instance beside the answer.
+    fn fault_of_reduced(&self, command: Asks) -> Option<FileFault<'a>> {
+        let made = self.sheets.reduced.as_ref()?;
+        let over = self.sources.read_as(&made.file);
+        if over.is_none() && !self.sheets.is_certificate(&made.file) {
+            return None;
+        }
+        Some(FileFault::Overwriting(command, Sink::Reduced, made.name, over))
+    }
+
+    /// Whether a plan that is kept in a file would take the place of the instance or the certificate.
+    fn is_spoilt(&self, file: &File) -> bool {
+        is_one(&self.sources.instance, file) || self.sheets.is_certificate(file)
     }
 }
 
@@ -231,7 +273,10 @@ fn is_one(a: &File, b: &File) -> bool {
 }
 
 /// The file in which the best plan so far is to be kept, as it is there: only a plain file is replaced.
-fn kept<'a>(rt: &HostRuntime, name: &str) -> Result<Option<File>, FileFault<'a>> {
+fn kept<'a>(rt: &HostRuntime, name: Option<&str>) -> Result<Option<File>, FileFault<'a>> {
+    let Some(name) = name else {
+        return Ok(None);
+    };
     let found = match fs::metadata(rt, name) {
         Ok(found) if found.is_file() => File::open(rt, name),
         Ok(_) => Err(io::ErrorKind::InvalidInput.into()),
@@ -250,6 +295,15 @@ fn file_to_read<'a>(rt: &HostRuntime, source: Source, name: &str) -> Result<File
         Ok(file) => Ok(file),
         Err(_) => Err(FileFault::Unread(source)),
     }
+}
+
+/// The file of the plan with which a search begins, where there is one.
+fn file_to_start<'a>(rt: &HostRuntime, name: Option<&str>) -> Result<Option<File>, FileFault<'a>> {
+    let Some(name) = name else {
+        return Ok(None);
+    };
+    let start = file_to_read(rt, Source::Plan, name)?;
+    Ok(Some(start))
 }
 
 /// The file that an option names, opened to be written: where it is there, as it is.

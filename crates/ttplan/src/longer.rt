@@ -6,7 +6,7 @@ use crate::files::{FileFault, Files, Named};
 use crate::hints::{Said, told};
 use crate::judging::as_json;
 use crate::searches::{Sheet, lines_for, options_of, patient_for};
-use command_line::{AnswerForm, Margin};
+use command_line::{AnswerForm, Asks, Margin};
 use command_streams::End;
 use json_commands::{Asking, Beside, MARGIN, Scale, Terms, margin_json, margin_run};
 use search_watching::{Follower, Searches};
@@ -29,8 +29,8 @@ fn terms_of(margin: &Margin) -> Terms
         scale,
         within: margin.within,
         beside: Beside {
-            certificate: margin.certificate.is_some(),
-            reduced: margin.reduced.is_some(),
+            certificate: margin.question.certificate.is_some(),
+            reduced: margin.question.reduced.is_some(),
         },
     }
 }
@@ -44,16 +44,16 @@ fn follow_margin<'a>(
 ) -> Result<End, FileFault<'a>>
     requires { 1 ≤ margin.now.within }
 {
-    let mut files = Files::open(rt, &Named::of_margin(margin))?;
+    let mut files = Files::open(rt, &Named::of_question(Asks::Margin, &margin.question))?;
     let asking = &Asking {
         alloc: rt.alloc(),
-        options: options_of(&margin.effort),
-        gate: &patient_for(rt, margin.effort.seconds, follower),
+        options: options_of(&margin.question.effort),
+        gate: &patient_for(rt, margin.question.effort.seconds, follower),
     };
     let (words, terms) = (margin.processes.as_slice(), terms_of(margin));
     let (instance, out) = (&mut files.instance, &mut rt.stdout());
     let (cert, reduced) = (&mut Sheet(files.certificate), &mut Sheet(files.reduced));
-    Ok(match margin.form {
+    Ok(match margin.question.form {
         AnswerForm::Text => margin_run(threads, asking, instance, words, terms, cert, reduced, out),
         AnswerForm::Json => margin_json(
             threads, asking, instance, words, terms, cert, reduced, out,
@@ -69,7 +69,7 @@ fn run_margin<'a>(
 ) -> Result<End, FileFault<'a>>
     requires { 1 ≤ margin.now.within }
 {
-    if !margin.effort.progress {
+    if !margin.question.effort.progress {
         return follow_margin(rt, threads, margin, &FreeGate);
     }
     let searches = Searches::on(rt, lines_for(rt));
@@ -82,9 +82,9 @@ fn run_margin<'a>(
 pub fn margin(rt: &HostRuntime, threads: &(impl Threads + Wait + Sync), margin: &Margin) -> u8
     requires { 1 ≤ margin.now.within }
 {
-    let said = Said::files(margin.instance, None, None);
+    let said = Said::files(margin.question.instance, None, None);
     match run_margin(rt, threads, margin) {
         Ok(end) => told(rt, &end, &said.with_words(margin.processes.as_slice())),
-        Err(fault) => fault.tell(rt, &said, as_json(margin.form, &MARGIN)),
+        Err(fault) => fault.tell(rt, &said, as_json(margin.question.form, &MARGIN)),
     }
 }

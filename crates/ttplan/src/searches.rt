@@ -4,7 +4,7 @@ use crate::files::{FileFault, Files, Named};
 use crate::hints::{Said, hint_at_none, told};
 use crate::judging::as_json;
 use crate::plan_file::shelf_of;
-use command_line::{AnswerForm, Effort, Limit, Search, Why};
+use command_line::{AnswerForm, Asks, Effort, Limit, Search, Why};
 use command_streams::End;
 use json_commands::{Asking, Beside, LIMIT, WHY, Wanted, limit_json, limit_run, why_json, why_run};
 use search_watching::{Follower, Keeper, Lines, Patience, Patient, Progress, Searches, kept_end};
@@ -178,7 +178,7 @@ fn run_why<'a>(
     threads: &(impl Threads + Wait + Sync),
     why: &Why<'a>,
 ) -> Result<End, FileFault<'a>> {
-    if !why.effort.progress {
+    if !why.question.effort.progress {
         return follow_why(rt, threads, why, &FreeGate);
     }
     let searches = Searches::on(rt, lines_beside(rt));
@@ -194,20 +194,20 @@ fn follow_why<'a>(
     why: &Why<'a>,
     follower: &(impl Follower + Sync),
 ) -> Result<End, FileFault<'a>> {
-    let mut files = Files::open(rt, &Named::of_why(why))?;
+    let mut files = Files::open(rt, &Named::of_question(Asks::Why, &why.question))?;
     let wanted = Wanted {
-        certificate: why.certificate.is_some(),
-        reduced: why.reduced.is_some(),
+        certificate: why.question.certificate.is_some(),
+        reduced: why.question.reduced.is_some(),
         late: why.late,
     };
     let asking = &Asking {
         alloc: rt.alloc(),
-        options: options_of(&why.effort),
-        gate: &patient_for(rt, why.effort.seconds, follower),
+        options: options_of(&why.question.effort),
+        gate: &patient_for(rt, why.question.effort.seconds, follower),
     };
     let (instance, out) = (&mut files.instance, &mut rt.stdout());
     let (cert, reduced) = (&mut Sheet(files.certificate), &mut Sheet(files.reduced));
-    Ok(match why.form {
+    Ok(match why.question.form {
         AnswerForm::Text => why_run(threads, asking, instance, wanted, cert, reduced, out),
         AnswerForm::Json => why_json(threads, asking, instance, wanted, cert, reduced, out),
     })
@@ -215,10 +215,10 @@ fn follow_why<'a>(
 
 /// Tells why there is no plan, says why that was refused, and gives the status.
 pub fn why(rt: &HostRuntime, threads: &(impl Threads + Wait + Sync), why: &Why) -> u8 {
-    let said = Said::files(why.instance, None, None);
+    let said = Said::files(why.question.instance, None, None);
     match run_why(rt, threads, why) {
         Ok(end) => told(rt, &end, &said),
-        Err(fault) => fault.tell(rt, &said, as_json(why.form, &WHY)),
+        Err(fault) => fault.tell(rt, &said, as_json(why.question.form, &WHY)),
     }
 }
 
@@ -228,7 +228,7 @@ fn run_limit<'a>(
     threads: &(impl Threads + Wait + Sync),
     limit: &Limit<'a>,
 ) -> Result<End, FileFault<'a>> {
-    if !limit.effort.progress {
+    if !limit.question.effort.progress {
         return follow_limit(rt, threads, limit, &FreeGate);
     }
     let searches = Searches::on(rt, lines_for(rt));
@@ -244,20 +244,20 @@ fn follow_limit<'a>(
     limit: &Limit<'a>,
     follower: &(impl Follower + Sync),
 ) -> Result<End, FileFault<'a>> {
-    let mut files = Files::open(rt, &Named::of_limit(limit))?;
+    let mut files = Files::open(rt, &Named::of_question(Asks::Limit, &limit.question))?;
     let beside = Beside {
-        certificate: limit.certificate.is_some(),
-        reduced: limit.reduced.is_some(),
+        certificate: limit.question.certificate.is_some(),
+        reduced: limit.question.reduced.is_some(),
     };
     let asking = &Asking {
         alloc: rt.alloc(),
-        options: options_of(&limit.effort),
-        gate: &patient_for(rt, limit.effort.seconds, follower),
+        options: options_of(&limit.question.effort),
+        gate: &patient_for(rt, limit.question.effort.seconds, follower),
     };
     let words = limit.processes.as_slice();
     let (instance, out) = (&mut files.instance, &mut rt.stdout());
     let (cert, reduced) = (&mut Sheet(files.certificate), &mut Sheet(files.reduced));
-    Ok(match limit.form {
+    Ok(match limit.question.form {
         AnswerForm::Text => limit_run(threads, asking, instance, words, beside, cert, reduced, out),
         AnswerForm::Json => limit_json(
             threads, asking, instance, words, beside, cert, reduced, out,
@@ -267,9 +267,9 @@ fn follow_limit<'a>(
 
 /// Tells how early processes can end, says why that was refused, and gives the status.
 pub fn limit(rt: &HostRuntime, threads: &(impl Threads + Wait + Sync), limit: &Limit) -> u8 {
-    let said = Said::files(limit.instance, None, None);
+    let said = Said::files(limit.question.instance, None, None);
     match run_limit(rt, threads, limit) {
         Ok(end) => told(rt, &end, &said.with_words(limit.processes.as_slice())),
-        Err(fault) => fault.tell(rt, &said, as_json(limit.form, &LIMIT)),
+        Err(fault) => fault.tell(rt, &said, as_json(limit.question.form, &LIMIT)),
     }
 }
