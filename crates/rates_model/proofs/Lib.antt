@@ -1,0 +1,6 @@
+pub mod Multiples
+pub mod LaterJobs
+pub mod RuleOrder
+pub mod Periods
+pub mod Elements
+pub mod Rooms

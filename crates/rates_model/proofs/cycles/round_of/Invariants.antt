@@ -1,0 +1,10 @@
+use Rattle.std.proofs.Common.{◌≡◌, ◌≤◌, ◌*◌, ◌^◌, take, sum_by}
+use Rattle.ttp_model.specs.Slots.{slot_duration}
+use Rattle.rates_model.specs.Cycles.{bus_for}
+use Rattle.rates_model.proofs.cycles.round_of.Given as goal
+
+abbrev pub invariant-loop-node : goal.invariant-loop-node
+invariant-loop-node l = record {
+  so_far : l.round ≡ sum_by (λ n. slot_duration (bus_for l.c 0) n.capacity) (take l.node-index l.nodes);
+  few : l.round ≤ l.node-index * 2 ^ 66;
+}

@@ -1,0 +1,9 @@
+pub mod Limits
+pub mod Rates
+pub mod Cycles
+pub mod Reads
+pub mod Ages
+pub mod Rules
+pub mod Refusals
+pub mod Searches
+pub mod Parts
