@@ -1,4 +1,5 @@
 pub mod Halves
+pub mod Shown
 pub mod LateCuts
 pub mod MarginCuts
 mod Bounds

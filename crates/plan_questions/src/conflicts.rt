@@ -1,11 +1,13 @@
 //! Which constraints of an instance leave no plan by themselves, and which of them can't be left out?
 
+mod carrying;
 mod conflict;
 mod first;
 mod laws;
 mod leaving;
 mod mentions;
 mod needs;
+mod renumbered;
 mod searched;
 mod turning;
 

@@ -9,6 +9,8 @@ use ttp_model::Instance;
 pub struct FirstPlan<'a, G: Gate> {
     gate: &'a G,
     is_found: AtomicBool,
+    /// Whether a plan may be looked for: from the start, or from when a worker has begun.
+    has_begun: AtomicBool,
 }
 
 impl<'a, G: Gate> FirstPlan<'a, G> {
@@ -17,12 +19,23 @@ impl<'a, G: Gate> FirstPlan<'a, G> {
         FirstPlan {
             gate,
             is_found: AtomicBool::new(false),
+            has_begun: AtomicBool::new(true),
+        }
+    }
+
+    /// None is found yet, and none is looked for before workers begin.
+    pub fn of_workers(gate: &'a G) -> Self {
+        FirstPlan {
+            gate,
+            is_found: AtomicBool::new(false),
+            has_begun: AtomicBool::new(false),
         }
     }
 }
 
 impl<'a, G: Gate> Gate for FirstPlan<'a, G> {
     fn start(&self, worker: usize) {
+        self.has_begun.store(true, Ordering::SeqCst);
         self.gate.start(worker);
     }
 
@@ -39,7 +52,9 @@ impl<'a, G: Gate> Gate for FirstPlan<'a, G> {
     }
 
     fn goes_on(&self, worker: usize) -> bool {
-        !self.is_found.load(Ordering::SeqCst) && self.gate.goes_on(worker)
+        self.has_begun.load(Ordering::SeqCst)
+            && !self.is_found.load(Ordering::SeqCst)
+            && self.gate.goes_on(worker)
     }
 
     fn enough(&self) -> u64 {

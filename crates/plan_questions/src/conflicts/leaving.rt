@@ -1,11 +1,12 @@
 //! Which constraints can be left out so that there is still no plan, and which of them are needed?
 
 ghost use Rattle.std.specs.Prelude.{◌≡◌, ◌-◌, ◌<◌, ◌≤◌, ◌++◌, [], IfOk, IfSome, None, OnOk, drop, length, option_to_list};
+ghost use Rattle.planner.specs.Answers.{answer_version};
 ghost use Rattle.plan_questions.specs.Conflicts.{IsNarrowing};
 ghost use Rattle.plan_questions.specs.Leaving.{IsTolder, LeavesOut, left_to_do};
 
+use super::carrying::without;
 use super::conflict::Conflict;
-use super::searched::searched;
 use super::turning::turn;
 use crate::asking::Asking;
 use crate::sought::Sought;
@@ -36,11 +37,12 @@ fn leave_out<R: Threads + Wait + Sync, G: Gate + Sync>(
     conflict: &mut Conflict,
     part: &[Constraint],
 ) -> Result<Without, SolveFault>
+    requires { conflict.old.cert.version ≡ answer_version instance.now }
     ensures { IfOk result (LeavesOut instance.now asking.now.options conflict.old part.now conflict.new) }
 {
     let mut fewer = conflict.kept.copy(asking.alloc)?;
     fewer.leave_all_out(part);
-    match searched(rt, asking, instance, &fewer)? {
+    match without(rt, asking, instance, conflict, &fewer)? {
         Sought::Absent { cert } => {
             conflict.kept = fewer;
             conflict.cert = cert;
@@ -157,7 +159,7 @@ fn step<R: Threads + Wait + Sync, G: Gate + Sync>(
 
 /// Leaves constraints out until one is known to be needed, which is told once; none once all are decided. The later ones of times, messages and
 /// links in this order are left out rather than the earlier ones: all at once that a certificate doesn't mention, and else one by one.
-/// Each search has the budget, and ends once it has found a plan. After a fault the conflict isn't to be used.
+/// Where a check of the certificate at hand says that there is no plan without them either, nothing is searched. Each search has the budget, and ends once it has found a plan. After a fault the conflict isn't to be used.
 pub fn next_need<R: Threads + Wait + Sync, G: Gate + Sync>(
     rt: &R,
     asking: &Asking<'_, G>,
