@@ -1,0 +1,12 @@
+pub mod Standing
+pub mod Copies
+pub mod Joined
+pub mod Bounds
+pub mod Versions
+pub mod Faults
+pub mod Found
+pub mod Passing
+pub mod Left
+pub mod Joining
+pub mod Steps
+pub use Rattle.tree_check.specs.Proofs
