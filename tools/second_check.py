@@ -24,9 +24,13 @@
                                                    writes the first line of ANSWER, which `ttplan margin INSTANCE ..` printed with these
                                                    words beside CERT and FILE, where they show what they have to
     tools/second_check.py why INSTANCE [OPTION]..  asks `ttplan why` with these words, and writes what that says once it is judged
+    tools/second_check.py unroll RATES             writes the instance of a cluster with several periods
+    tools/second_check.py repeat RATES [PLAN]      writes how that repeats, and what its plan means in all cycles
 
 Anything else is told in one line on standard error, with the words and the statuses of `ttplan verify`, `check`, `judge`,
-`schedule`, `draw`, `tables`, `period`, `replay` and `compare`.
+`schedule`, `draw`, `tables`, `period`, `replay`, `compare`, `unroll` and `repeat`. A plan of a cluster with several periods is judged for
+`repeat` by its unrolled instance, and once more by the jobs of six cycles: where the two differ the line is `repeat wrong`, with what is,
+and the status 1.
 It was written from docs/FORMATS.md and docs/CERTIFICATES.md alone, but for the elements and colours of a picture, which stand in
 crates/plan_picture/specs, and is proved in no way: where it and ttplan differ, a
 document is wrong, or one of the two programs is.
@@ -118,24 +122,27 @@ class Message:
 class Table:
     """A table of the text at its place. Its keys are asked for in the order in which they are judged."""
 
-    def __init__(self, members, place, keys):
-        self.members, self.place = members, place
+    def __init__(self, members, place, keys, text="instance"):
+        self.members, self.place, self.text = members, place, text
         if set(members) - set(keys):
-            raise Refused(3, "instance T2", place)
+            raise self.fault("T2", place)
+
+    def fault(self, code, *words):
+        return Refused(3, self.text, code, *words)
 
     def value(self, key, kind, missing=None):
         if key not in self.members:
             if missing is None:
-                raise Refused(3, "instance T3", self.place, key)
+                raise self.fault("T3", self.place, key)
             return missing
         return self.of_kind(key, self.members[key], kind)
 
     def of_kind(self, key, value, kind):
         # A truth value is an int to Python, and a date-time is a date.
         if type(value) is not kind:
-            raise Refused(3, "instance T4", self.place, key)
+            raise self.fault("T4", self.place, key)
         if kind is int and not 0 <= value <= NUMBER_MOST:
-            raise Refused(3, "instance T5", self.place, key)
+            raise self.fault("T5", self.place, key)
         return value
 
     def items(self, key, kind, missing=None):
@@ -147,7 +154,7 @@ class Table:
 
     def named(self, key, name, indices):
         if name not in indices:
-            raise Refused(3, "instance T6", self.place, key)
+            raise self.fault("T6", self.place, key)
         return indices[name]
 
     def index(self, key, indices):
@@ -191,16 +198,16 @@ def holds_long_number(value):
     return False
 
 
-def parse(text):
+def parse(text, what="instance"):
     """The text as a table."""
     try:
         text = text.removeprefix(codecs.BOM_UTF8).decode("utf-8")
         # Python's reader isn't asked to read what is too deep for it.
         top = None if is_too_deep(text) else tomllib.loads(text, parse_float=finite)
     except ValueError as fault:
-        raise Refused(3, "instance T1") from fault
+        raise Refused(3, f"{what} T1") from fault
     if top is None or holds_long_number(top):
-        raise Refused(3, "instance T1")
+        raise Refused(3, f"{what} T1")
     return top
 
 
@@ -215,9 +222,7 @@ class Instance:
         lists = {key: list(top.items(key, dict, missing)) for key, missing in
                  (("node", None), ("process", None), ("link", []), ("message", []))}
         cluster = Table(cluster, "cluster", (*CLUSTER_KEYS, "channels"))
-        self.cluster = {key: cluster.number(key) for key in CLUSTER_KEYS} | {"channels": cluster.number("channels", 1)}
-        # The cluster's numbers are the instance's own, as in instance.head.
-        self.__dict__.update(self.cluster)
+        self.set_cluster({key: cluster.number(key) for key in CLUSTER_KEYS} | {"channels": cluster.number("channels", 1)})
         self.nodes, self.processes, self.links, self.messages = [], [], [], []
         for k, members in enumerate(lists["node"]):
             table = Table(members, f"node {k}", ("name", "capacities"))
@@ -240,6 +245,23 @@ class Instance:
                 table.value("both", bool, False)))
         for code, place in self.faults():
             raise Refused(3, f"instance {code}", *place)
+        self.settle()
+
+    @classmethod
+    def of(cls, cluster, nodes, processes, links, messages):
+        """The instance of these parts, not judged yet."""
+        made = cls.__new__(cls)
+        made.set_cluster(cluster)
+        made.nodes, made.processes, made.links, made.messages = nodes, processes, links, messages
+        return made
+
+    def set_cluster(self, cluster):
+        self.cluster = cluster
+        # The cluster's numbers are the instance's own, as in instance.head.
+        self.__dict__.update(cluster)
+
+    def settle(self):
+        """Keeps what is asked for often of an instance without a fault."""
         self.by_node = [[p for p, process in enumerate(self.processes) if process.node == n]
                         for n in range(len(self.nodes))]
         self.sent_by = [[m for m in range(len(self.messages)) if self.sender_node(m) == n]
@@ -1698,6 +1720,430 @@ def why(words):
         return f"{head}\n{answer}", status
 
 
+# Several rates
+
+
+CHAINS_MOST, THROUGH_MOST, CYCLES_SEEN = 64, 32, 6
+
+
+@dataclass
+class Recurring:
+    """A process that runs once in each period, within its release and its deadline there."""
+
+    name: str
+    node: int
+    wcet: int
+    period: int
+    release: int
+    deadline: int
+
+
+@dataclass
+class Way:
+    """What leads a value from one process to another on its node: of this period, or of the one before."""
+
+    before: int
+    after: int
+    delay: int
+
+
+@dataclass
+class Sent:
+    name: str
+    sender: int
+    to: list
+    bytes: int
+    both: bool
+    delay: int
+
+
+@dataclass
+class Chain:
+    name: str
+    through: list
+    age: int
+
+
+class Rates:
+    """The cluster with several periods that a text states, or the first thing that is wrong with it."""
+
+    def __init__(self, text):
+        if len(text) > INSTANCE_BYTES:
+            raise Refused(6, "read rates")
+        top = Table(parse(text, "rates"), "top", ("cluster", "node", "process", "link", "message", "chain"), "rates")
+        cluster = top.value("cluster", dict)
+        lists = {key: list(top.items(key, dict, missing)) for key, missing in
+                 (("node", None), ("process", None), ("link", []), ("message", []), ("chain", []))}
+        self.read_cluster(cluster)
+        self.nodes = [self.read_node(table) for table in self.tables(lists, "node", "name", "capacity")]
+        nodes = indices_of(self.nodes)
+        keys = "name", "node", "wcet", "period", "release", "deadline"
+        self.processes = [self.read_process(table, nodes) for table in self.tables(lists, "process", *keys)]
+        names = indices_of(self.processes)
+        self.links = [Way(table.index("from", names), table.index("to", names), table.number("delay", 0))
+                      for table in self.tables(lists, "link", "from", "to", "delay")]
+        keys = "name", "from", "to", "bytes", "both", "delay"
+        self.messages = [self.read_message(table, names) for table in self.tables(lists, "message", *keys)]
+        self.chains = [self.read_chain(table, names) for table in self.tables(lists, "chain", "name", "through", "age")]
+        for code, place in self.faults():
+            raise Refused(3, "rates", code, *place)
+
+    def tables(self, lists, word, *keys):
+        return (Table(members, f"{word} {k}", keys, "rates") for k, members in enumerate(lists[word]))
+
+    def read_cluster(self, members):
+        needed = [key for key in CLUSTER_KEYS if key != "horizon"]
+        table = Table(members, "cluster", (*needed, "channels", "store"), "rates")
+        self.cluster = {key: table.number(key) for key in needed} | {"channels": table.number("channels", 1)}
+        self.store = table.number("store", 1)
+
+    def read_node(self, table):
+        return Node(table.value("name", str), [table.number("capacity")])
+
+    def read_process(self, table, nodes):
+        name, node, wcet = table.value("name", str), table.index("node", nodes), table.number("wcet")
+        period, release = table.number("period"), table.number("release", 0)
+        return Recurring(name, node, wcet, period, release, table.number("deadline", period))
+
+    def read_message(self, table, names):
+        return Sent(table.value("name", str), table.index("from", names),
+                    [table.named("to", name, names) for name in table.items("to", str)],
+                    table.number("bytes"), table.value("both", bool, False), table.number("delay", 0))
+
+    def read_chain(self, table, names):
+        return Chain(table.value("name", str), [table.named("through", name, names) for name in table.items("through", str)],
+                     table.number("age"))
+
+    def faults(self):
+        """The codes J1 to J10 with their places, the one that is told first."""
+        yield from self.faults_of_lengths()
+        named = (("node", self.nodes), ("process", self.processes), ("message", self.messages), ("chain", self.chains))
+        for word, things in named:
+            for k, thing in enumerate(things):
+                if not NAME.fullmatch(thing.name.encode()):
+                    yield "J2", (word, k)
+        for word, things in named:
+            for k, thing in enumerate(things):
+                if indices_of(things)[thing.name] < k:
+                    yield "J3", (word, k)
+        yield from self.faults_of_times()
+        for k, chain in enumerate(self.chains):
+            for at, (p, q) in enumerate(itertools.pairwise(chain.through)):
+                if not self.delays(p, q):
+                    yield "J7", ("chain", k, at + 1)
+        # J8 is of a round that a text asks for, as none does.
+        if self.cycle > TICKS_MOST:
+            yield "J9", ()
+        if self.round > self.cycle:
+            yield "J10", (self.round, self.cycle)
+
+    def faults_of_lengths(self):
+        lists = (("node", self.nodes, 1, 32), ("process", self.processes, 1, 256), ("link", self.links, 0, 1024),
+                 ("message", self.messages, 0, 512), ("chain", self.chains, 0, CHAINS_MOST))
+        for word, things, least, most in lists:
+            if not least <= len(things) <= most:
+                yield "J1", (word,)
+        for k, message in enumerate(self.messages):
+            if not message.to:
+                yield "J1", ("message", k)
+        for k, chain in enumerate(self.chains):
+            if not 2 <= len(chain.through) <= THROUGH_MOST:
+                yield "J1", ("chain", k)
+
+    def faults_of_times(self):
+        """J5 and J6."""
+        if not 1 <= self.store <= TICKS_MOST:
+            yield "J5", ("cluster",)
+        for word, things, right in (
+                ("process", self.processes, lambda process: 1 <= process.period <= TICKS_MOST),
+                ("link", self.links, lambda link: link.delay <= 1), ("message", self.messages, lambda message: message.delay <= 1),
+                ("chain", self.chains, lambda chain: 1 <= chain.age <= TICKS_MOST)):
+            for k, thing in enumerate(things):
+                if not right(thing):
+                    yield "J5", (word, k)
+        for k, process in enumerate(self.processes):
+            if not process.release + process.wcet <= process.deadline <= process.period:
+                yield "J6", ("process", k)
+
+    @functools.cached_property
+    def cycle(self):
+        return math.lcm(*(process.period for process in self.processes))
+
+    @functools.cached_property
+    def round(self):
+        slot = self.cluster["lead"] + self.cluster["head"] + self.cluster["trail"]
+        return sum(slot + self.cluster["per_byte"] * node.capacities[0] for node in self.nodes)
+
+    @functools.cached_property
+    def rounds(self):
+        """How many whole rounds a cycle holds; where a round takes no time the cluster is refused anyway."""
+        return self.cycle // self.round if self.round else 0
+
+    def jobs(self, p):
+        """How many jobs a process has in a cycle."""
+        return self.cycle // self.processes[p].period
+
+    def read_job(self, q, job, p, delay):
+        """Which job of p a job of q reads, both counted from the first cycle on, and below 0 before it."""
+        return job * self.processes[q].period // self.processes[p].period - delay
+
+    def delays(self, p, q):
+        """By how many periods late q reads what p says, by each way there is."""
+        return ([link.delay for link in self.links if (link.before, link.after) == (p, q)]
+                + [message.delay for message in self.messages if message.sender == p and q in message.to])
+
+    def carried(self, chain, job):
+        """Which job of a chain's first process it is whose value a job of its last one carries, and by the oldest way."""
+        for p, q in reversed(list(itertools.pairwise(chain.through))):
+            job = self.read_job(q, job, p, max(self.delays(p, q)))
+        return job
+
+    def released(self, p, job):
+        return job * self.processes[p].period + self.processes[p].release
+
+
+class Unrolled:
+    """The instance of a cluster with several periods, or the first thing that is wrong with that, and what its processes and messages
+    are: jobs of a process, stores of a message on a node, jobs of a message's sender."""
+
+    def __init__(self, rates):
+        self.rates = rates
+        self.end = rates.rounds * rates.round
+        if sum(rates.jobs(p) for p in range(len(rates.processes))) > 256:
+            raise Refused(3, "rates M1 process")
+        self.jobs = [(p, job) for p in range(len(rates.processes)) for job in range(rates.jobs(p))]
+        self.stores = [(m, n) for m, message in enumerate(rates.messages) if message.delay
+                       for n in dict.fromkeys(rates.processes[q].node for q in message.to)]
+        self.place = {job: place for place, job in enumerate(self.jobs)}
+        self.store_place = {store: len(self.jobs) + place for place, store in enumerate(self.stores)}
+        self.sent = [(m, job) for m, message in enumerate(rates.messages) for job in range(rates.jobs(message.sender))
+                     if self.receivers(m, job)]
+        cluster = {key: self.end if key == "horizon" else rates.cluster[key] for key in (*CLUSTER_KEYS, "channels")}
+        processes = [self.job(p, job) for p, job in self.jobs] + [self.stored(m, n) for m, n in self.stores]
+        messages = [self.message(m, job) for m, job in self.sent]
+        self.instance = Instance.of(cluster, rates.nodes, processes, list(self.links()), messages)
+        for code, place in self.instance.faults():
+            raise Refused(3, "rates", code, *self.named(code, place))
+        self.instance.settle()
+
+    def named(self, code, place):
+        """A place with names where it has indices."""
+        names = {word: [thing.name for thing in things] for word, things in (
+            ("node", self.instance.nodes), ("process", self.instance.processes), ("message", self.instance.messages))}
+        if code == "M13":
+            return [names["process"][p] for p in place]
+        if place[:1] == ("link",) and len(place) > 1:
+            link = self.instance.links[place[1]]
+            return ["link", names["process"][link.before], names["process"][link.after]]
+        return [*place[:1], *(names[place[0]][k] for k in place[1:])]
+
+    def job_name(self, name, p, job):
+        return name if self.rates.jobs(p) == 1 else f"{name}_{job}"
+
+    def job(self, p, job):
+        process = self.rates.processes[p]
+        deadline = min([job * process.period + process.deadline, self.end] + [
+            max(chain.age + self.rates.released(chain.through[0], self.rates.carried(chain, job)), 0)
+            for chain in self.rates.chains if chain.through[-1] == p])
+        return Process(self.job_name(process.name, p, job), process.node, process.wcet, self.rates.released(p, job), deadline)
+
+    def stored(self, m, n):
+        return Process(f"{self.rates.messages[m].name}_at_{self.rates.nodes[n].name}", n, self.rates.store, 0, self.end)
+
+    def links(self):
+        for link in self.rates.links:
+            for job in range(self.rates.jobs(link.after) if link.delay == 0 else 0):
+                read = self.rates.read_job(link.after, job, link.before, 0)
+                yield Link(self.place[link.before, read], self.place[link.after, job])
+
+    def receivers(self, m, job):
+        """The jobs and stores that a message goes to from a job of its sender."""
+        message, jobs = self.rates.messages[m], self.rates.jobs(self.rates.messages[m].sender)
+        reads = [(q, reader, self.rates.read_job(q, reader, message.sender, message.delay))
+                 for q in message.to for reader in range(self.rates.jobs(q))]
+        now = [self.place[q, reader] for q, reader, read in reads if read == job]
+        later = dict.fromkeys(self.store_place[m, self.rates.processes[q].node] for q, _, read in reads if read < 0 and read + jobs == job)
+        return now + list(later)
+
+    def message(self, m, job):
+        message = self.rates.messages[m]
+        return Message(self.job_name(message.name, message.sender, job), self.place[message.sender, job], self.receivers(m, job),
+                       message.bytes, message.both)
+
+
+def told_instance(instance):
+    """The text of an instance as ttplan writes it."""
+    names = [process.name for process in instance.processes]
+    tables = [("[cluster]", instance.cluster | {"channels": instance.channels if instance.channels > 1 else None})]
+    tables += [("[[node]]", vars(node)) for node in instance.nodes]
+    tables += [("[[process]]", vars(process) | {
+        "node": instance.nodes[process.node].name, "release": process.release or None,
+        "deadline": process.deadline if process.deadline < TICKS_MOST else None}) for process in instance.processes]
+    tables += [("[[link]]", {"from": names[link.before], "to": names[link.after]}) for link in instance.links]
+    tables += [("[[message]]", {
+        "name": message.name, "from": names[message.sender], "to": [names[q] for q in message.to], "bytes": message.bytes,
+        "both": message.both or None}) for message in instance.messages]
+    return "\n".join(f"{head}\n" + "".join(f"{key} = {json.dumps(value)}\n" for key, value in table.items() if value is not None)
+                     for head, table in tables)
+
+
+def unrolled_text(text):
+    """The text of the instance of a cluster with several periods; raises Refused."""
+    return told_instance(Unrolled(Rates(text)).instance).removesuffix("\n")
+
+
+class Repeated:
+    """Six cycles of a cluster with several periods by a plan, and more where data is older than that: told by jobs that are counted from the
+    first cycle on, and by ticks from its begin. The rules of instances and what is valid by them stand nowhere here."""
+
+    def __init__(self, unrolled, plan):
+        self.rates, rates = unrolled.rates, unrolled.rates
+        self.plan, self.period, self.end = plan, rates.cycle, unrolled.end
+        self.start = dict(zip(unrolled.jobs, plan.starts))
+        self.stored = dict(zip(unrolled.stores, plan.starts[len(unrolled.jobs):]))
+        self.sent = dict(zip(unrolled.sent, zip(plan.rounds, plan.channels)))
+        slot = rates.cluster["lead"] + rates.cluster["head"] + rates.cluster["trail"]
+        self.slot = [slot + rates.cluster["per_byte"] * capacity for capacity in plan.caps]
+        self.begin = {n: sum(self.slot[u] for u in plan.order[:k]) for k, n in enumerate(plan.order)}
+        back = min([rates.carried(chain, 0) * rates.processes[chain.through[0]].period for chain in rates.chains], default=0)
+        self.cycles = CYCLES_SEEN - back // self.period
+
+    def absolute(self, p, job):
+        """When a job starts and ends, by its number from the first cycle on."""
+        cycle, job = divmod(job, self.rates.jobs(p))
+        start = cycle * self.period + self.start[p, job]
+        return start, start + self.rates.processes[p].wcet
+
+    def all_jobs(self, p, cycles=None):
+        return range((cycles or self.cycles) * self.rates.jobs(p))
+
+    def slots(self, m, job):
+        """The cycle of a message of a job, its node, its round and channel, and when its slot begins and ends."""
+        cycle, within = divmod(job, self.rates.jobs(self.rates.messages[m].sender))
+        node = self.rates.processes[self.rates.messages[m].sender].node
+        r, channel = self.sent[m, within]
+        begin = cycle * self.period + r * sum(self.slot) + self.begin[node]
+        return cycle, node, r, channel, begin, begin + self.slot[node]
+
+    def read_from(self, m):
+        """By which job of which process each message's value is read, by the job that sends it."""
+        message, read = self.rates.messages[m], {}
+        for q in message.to:
+            for job in self.all_jobs(q, self.cycles + 1):
+                sender = self.rates.read_job(q, job, message.sender, message.delay)
+                if 0 <= sender < self.cycles * self.rates.jobs(message.sender):
+                    read.setdefault(sender, []).append((q, job))
+        return read
+
+    def faults(self):
+        """What isn't right in a cycle."""
+        if any(capacity != node.capacities[0] for capacity, node in zip(self.plan.caps, self.rates.nodes)):
+            yield ("capacity",)
+        yield from self.faults_of_runs()
+        for link in self.rates.links:
+            for job in self.all_jobs(link.after):
+                read = self.rates.read_job(link.after, job, link.before, link.delay)
+                if read >= 0 and self.absolute(link.before, read)[1] > self.absolute(link.after, job)[0]:
+                    yield "link", link.before, link.after, job
+        yield from self.faults_of_messages()
+        for k, chain in enumerate(self.rates.chains):
+            if any(age > chain.age for age in self.ages(chain)):
+                yield "age", k
+
+    def faults_of_runs(self):
+        """Jobs and stores outside their time, and two of one node at a time."""
+        runs = {n: [] for n in range(len(self.rates.nodes))}
+        for p, process in enumerate(self.rates.processes):
+            for job in self.all_jobs(p):
+                start, end = self.absolute(p, job)
+                begin, cycle = job * process.period, job // self.rates.jobs(p) * self.period
+                if not begin + process.release <= start <= end <= min(begin + process.deadline, cycle + self.end):
+                    yield "time", p, job
+                runs[process.node].append((start, end))
+        for (m, n), start in self.stored.items():
+            if start + self.rates.store > self.end:
+                yield "store", m, n
+            runs[n] += [(c * self.period + start, c * self.period + start + self.rates.store) for c in range(self.cycles)]
+        for n, there in runs.items():
+            for (_, end), (start, _) in itertools.pairwise(sorted(there)):
+                if start < end:
+                    yield "node", n, start
+
+    def faults_of_messages(self):
+        """Messages that aren't ready, come late, or are on a wrong channel, and frames that are too full."""
+        frames = {}
+        for m, message in enumerate(self.rates.messages):
+            for sender, readers in self.read_from(m).items():
+                cycle, node, r, channel, begin, end = self.slots(m, sender)
+                if r >= self.rates.rounds:
+                    yield "round", m, sender
+                if self.absolute(message.sender, sender)[1] + self.rates.cluster["copy_out"] > begin:
+                    yield "ready", m, sender
+                arrived = end + self.rates.cluster["copy_in"]
+                if any(arrived > self.needed(m, cycle, q, job) for q, job in readers):
+                    yield "arrived", m, sender
+                if channel > BOTH or self.rates.cluster["channels"] == 1 and channel or message.both and channel != BOTH:
+                    yield "channel", m, sender
+                for c in (0, 1) if channel == BOTH else (channel,):
+                    frames[cycle, r, node, c] = frames.get((cycle, r, node, c), 0) + message.bytes
+        for (cycle, r, node, c), together in frames.items():
+            if together > self.rates.nodes[node].capacities[0]:
+                yield "frame", cycle, r, node, c
+
+    def needed(self, m, cycle, q, job):
+        """By when a reader has to have a message that is sent in a cycle: its start, or that of its store where it is in the next."""
+        if job // self.rates.jobs(q) == cycle:
+            return self.absolute(q, job)[0]
+        return cycle * self.period + self.stored[m, self.rates.processes[q].node]
+
+    def ages(self, chain):
+        """The age of each job of a chain's last process that carries a value of these cycles."""
+        for job in self.all_jobs(chain.through[-1]):
+            carried = self.rates.carried(chain, job)
+            if carried >= 0:
+                yield self.absolute(chain.through[-1], job)[1] - self.rates.released(chain.through[0], carried)
+
+    def lines(self):
+        """The greatest jitter and response of each process and the greatest age of each chain."""
+        for p, process in enumerate(self.rates.processes):
+            starts = [self.absolute(p, job)[0] - job * process.period for job in self.all_jobs(p)]
+            response = max(starts) + process.wcet - process.release
+            yield f"process {process.name} {max(starts) - min(starts)} {response}"
+        for chain in self.rates.chains:
+            yield f"chain {chain.name} {max(self.ages(chain))} {chain.age}"
+
+
+def repeated_lines(rates, plan_text):
+    """How a cluster with several periods repeats, and what a plan means in all its cycles; raises Refused."""
+    unrolled = Unrolled(rates)
+    length, cycle = rates.round, rates.cycle
+    yield from ("ttrepeat 1", "finer 1", f"period {cycle}", f"round {length}", f"rounds {rates.rounds}", f"gap {cycle - unrolled.end}")
+    if cycle > unrolled.end:
+        dividing = [ticks for ticks in range(1, cycle + 1) if cycle % ticks == 0]
+        yield f"near {max(ticks for ticks in dividing if ticks <= length)} {min(ticks for ticks in dividing if ticks >= length)}"
+    for word, things in ("processes", unrolled.instance.processes), ("links", unrolled.instance.links), ("messages", unrolled.instance.messages):
+        yield f"{word} {len(things)}"
+    if plan_text is not None:
+        repeated = Repeated(unrolled, verified(unrolled.instance, plan_text))
+        for fault in repeated.faults():
+            raise Refused(1, "repeat wrong", *fault)
+        yield from repeated.lines()
+
+
+def unroll(paths):
+    """The same of a file; raises Refused."""
+    with opened(paths[0], "rates") as rates:
+        return unrolled_text(taken(rates, "rates", INSTANCE_BYTES)), 0
+
+
+def repeat(paths):
+    """The same of files; raises Refused."""
+    with contextlib.ExitStack() as files:
+        texts = [files.enter_context(opened(path, what)) for path, what in zip(paths, ("rates", "plan"))]
+        rates = Rates(taken(texts[0], "rates", INSTANCE_BYTES))
+        return "\n".join(repeated_lines(rates, taken(texts[1], "plan", PLAN_BYTES) if texts[1:] else None)), 0
+
+
 # The program
 
 
@@ -1706,7 +2152,8 @@ USAGE = ("usage: second_check.py verify INSTANCE PLAN | check INSTANCE CERT | ju
          " | tables INSTANCE PLAN [--rounds N] | period INSTANCE PLAN PERIOD"
          " | replay INSTANCE PLAN [LOSS].."
          " | compare OLD_INSTANCE OLD_PLAN NEW_INSTANCE NEW_PLAN | limit INSTANCE ANSWER CERT [--reduced FILE] PROCESS.."
-         " | margin INSTANCE ANSWER CERT [--reduced FILE] [--permille] [--within D] [PROCESS].. | why INSTANCE [OPTION]..")
+         " | margin INSTANCE ANSWER CERT [--reduced FILE] [--permille] [--within D] [PROCESS].. | why INSTANCE [OPTION].."
+         " | unroll RATES | repeat RATES [PLAN]")
 COMMANDS = {"verify": (verify, "plan", PLAN_BYTES), "check": (check, "certificate", CERTIFICATE_BYTES),
             "tables": (tables, "plan", PLAN_BYTES)}
 
@@ -1991,6 +2438,10 @@ def run(words):
         return margin(words[1:4], words[4:])
     if len(words) >= 2 and words[0] == "why":
         return why(words[1:])
+    if len(words) == 2 and words[0] == "unroll":
+        return unroll(words[1:])
+    if len(words) in (2, 3) and words[0] == "repeat":
+        return repeat(words[1:])
     command, what, most = command_of(words)
     with opened(words[1], "instance") as instance, opened(words[2], what) as text:
         judged = Instance(taken(instance, "instance", INSTANCE_BYTES))
