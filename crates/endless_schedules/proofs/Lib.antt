@@ -1,0 +1,17 @@
+mod MappedAt
+mod Pieces
+mod Members
+mod ReadJobs
+mod RunPlaces
+mod Readers
+mod SentPlaces
+mod LinkPlaces
+mod Deadlines
+mod StoringNodes
+mod Chains
+mod Rounds
+mod Frames
+mod Shared
+mod Sound
+mod Complete
+mod Behind

@@ -1,0 +1,5 @@
+pub mod Runs
+pub mod Sent
+pub mod Carried
+pub mod Endless
+pub mod Clocks

@@ -1,0 +1,8 @@
+//! Plans of clusters of several rates, in all cycles: what a plan of the instance of one cycle means for ever.
+#![tactic(auto)]
+
+mod laws;
+
+pub use laws::{
+    earlier_cycles_are_stored, jobs_start_behind_frames, plans_repeat_as_they_are_valid,
+};

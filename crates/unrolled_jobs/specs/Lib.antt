@@ -1,0 +1,4 @@
+pub mod Names
+pub mod Times
+pub mod Stores
+pub mod Unrolled

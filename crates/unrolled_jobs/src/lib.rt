@@ -1,0 +1,2 @@
+//! The instance of one cycle (definitions alone).
+#![tactic(auto)]
