@@ -1,5 +1,5 @@
 -- What jobs and stores are called.
-use Rattle.std.specs.Prelude.{ℕ, ◌==◌, List, ◌++◌, ◌∷◌, codes, if◌then◌else◌}
+use Rattle.std.specs.Prelude.{ℕ, ◌==◌, List, ◌++◌, codes, if◌then◌else◌}
 use Rattle.std.specs.Fmt.{decimal}
 
 -- a name with a number behind it; by itself where there is only one of them

@@ -1,0 +1,10 @@
+use Rattle.unrolled_jobs.specs.Refusals.{IsUnrollFault}
+use Rattle.unrolled_jobs.proofs.Counts.{some_processes}
+use Rattle.unrolled_jobs.proofs.TooMany.{handed, told_fault}
+use Rattle.unrolled_jobs.proofs.unrolling.unroll.Goals as goal
+
+pub returns-in_err-tables-clause-err : goal.returns-in_err-tables-clause-err
+returns-in_err-tables-clause-err c =
+    let keeps = c.processes-processes.ensures.keeps in
+    handed (IsUnrollFault c.args.rates.now) _ _ c.from_residual.ensures.1
+    (told_fault c.args.rates.now keeps (some_processes c.args.rates.now keeps) _ c.in_err-tables.ensures.err)
