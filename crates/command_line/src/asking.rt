@@ -8,7 +8,7 @@ use crate::given::Given;
 use crate::misuse::Misuse;
 use crate::options::{
     ANY_PLAN, CERTIFICATE, EXPLAINED_CERT, EXPLAINED_PLAN, FORMAT, INSTANCE, NEW_INSTANCE,
-    NEW_PLAN, OLD_INSTANCE, OLD_PLAN,
+    NEW_PLAN, OLD_INSTANCE, OLD_PLAN, RATES,
 };
 use crate::searching::{limit_request, margin_request, solve_request, why_request};
 use crate::table::{Asks, COMMANDS, row_of};
@@ -43,6 +43,14 @@ fn explain_request<'a>(given: Given<'_, 'a>) -> Result<Request<'a>, Misuse<'a>>
         explained,
         form,
     })
+}
+
+/// The instance of one cycle of a cluster of several rates.
+fn unroll_request<'a>(given: Given<'_, 'a>) -> Result<Request<'a>, Misuse<'a>>
+    ensures { IfOk result IsSound }
+{
+    let rates = given.text(RATES)?;
+    Ok(Request::Unroll { rates })
 }
 
 /// The check of a certificate.
@@ -110,6 +118,7 @@ fn request_of<'a>(
         Asks::Explain => explain_request(given),
         Asks::Tables => tables_request(given),
         Asks::Period => period_request(given),
+        Asks::Unroll => unroll_request(given),
         Asks::Replay => replay_request(alloc, given),
         Asks::Schedule => schedule_request(given),
         Asks::Draw => draw_request(given),

@@ -84,6 +84,14 @@ pub const PERIOD_TICKS: &Row = &Row {
     help: "How many ticks after its begin the plan begins anew, 1 to 1000000",
 };
 
+/// The file of a cluster of several rates.
+pub const RATES: &Row = &Row {
+    name: "RATES",
+    place: Place::Word,
+    takes: Takes::Text,
+    help: "A cluster whose processes have periods of their own, in TOML",
+};
+
 /// The file of the instance before a change.
 pub const OLD_INSTANCE: &Row = &Row {
     name: "OLD_INSTANCE",

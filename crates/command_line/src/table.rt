@@ -3,9 +3,9 @@
 use crate::options::{
     ANY_PLAN, BUDGET, CERT, CERT_OF_LAST, CERT_OF_MORE, CERT_OF_NONE, CERTIFICATE, EXPLAINED_CERT,
     EXPLAINED_PLAN, FORMAT, GAP, INSTANCE, KEEP, LATE, LOSSES, NEW_INSTANCE, NEW_PLAN, NODE,
-    OLD_INSTANCE, OLD_PLAN, PERIOD_TICKS, PERMILLE, PLAN, PROCESSES, PROGRESS, REDUCED, ROUNDS,
-    RUNNERS, SCHEDULE_FORMAT, SEARCH_BUDGET, SEARCHED, SEARCHES_PROGRESS, SECONDS, START, TABLE,
-    UNTIL, USED, WIDTH, WITH_MORE, WITHIN, WORKERS,
+    OLD_INSTANCE, OLD_PLAN, PERIOD_TICKS, PERMILLE, PLAN, PROCESSES, PROGRESS, RATES, REDUCED,
+    ROUNDS, RUNNERS, SCHEDULE_FORMAT, SEARCH_BUDGET, SEARCHED, SEARCHES_PROGRESS, SECONDS, START,
+    TABLE, UNTIL, USED, WIDTH, WITH_MORE, WITHIN, WORKERS,
 };
 use crate::rows::Row;
 
@@ -22,6 +22,7 @@ pub enum Asks {
     Explain,
     Tables,
     Period,
+    Unroll,
     Replay,
     Schedule,
     Draw,
@@ -166,6 +167,16 @@ const PERIOD: &CommandRow = &CommandRow {
     ),
 };
 
+/// Unrolls a cluster of several rates.
+const UNROLL: &CommandRow = &CommandRow {
+    name: "unroll",
+    about: "Prints the instance of one cycle of a cluster whose processes have periods of their own",
+    rows: &[RATES],
+    after: Some(
+        "A cycle is the least common multiple of all periods. In it a process has a job for each of its periods, `NAME_k` with k from 0, or `NAME` where there is one; and so has a message for each job that is read. A value that is read in the next cycle is stored on each node of its readers by a process `MESSAGE_at_NODE`. All jobs run within the whole rounds of the cycle, whose ticks are the horizon. A plan of this instance may begin anew each cycle, and all commands take it.\n\nWith `round` each slot is longer by an even share of what the round has left. Where that isn't whole, all times are told in ticks that are finer.",
+    ),
+};
+
 /// Replays a cycle.
 const REPLAY: &CommandRow = &CommandRow {
     name: "replay",
@@ -214,6 +225,7 @@ pub const COMMANDS: &[Asks] = &[
     Asks::Explain,
     Asks::Tables,
     Asks::Period,
+    Asks::Unroll,
     Asks::Replay,
     Asks::Schedule,
     Asks::Draw,
@@ -233,6 +245,7 @@ pub fn row_of(asks: Asks) -> &'static CommandRow {
         Asks::Explain => EXPLAIN,
         Asks::Tables => TABLES,
         Asks::Period => PERIOD,
+        Asks::Unroll => UNROLL,
         Asks::Replay => REPLAY,
         Asks::Schedule => SCHEDULE,
         Asks::Draw => DRAW,

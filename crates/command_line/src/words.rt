@@ -136,6 +136,10 @@ pub enum Request<'a> {
         plan: &'a str,
         task: RoundsTask,
     },
+    /// Write the instance of one cycle of the cluster of several rates of a file.
+    Unroll {
+        rates: &'a str,
+    },
     /// Search the instance of a file.
     Solve(Search<'a>),
     /// Tell why the instance of a file has no plan.

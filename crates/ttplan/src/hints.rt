@@ -181,6 +181,14 @@ pub fn hint_at_none(rt: &HostRuntime, instance: &str) {
     }
 }
 
+/// Says beside the line of a file that can't be read which one it is, where standard error is a terminal.
+pub fn hint_at_file(rt: &HostRuntime, what: &str, name: &str) {
+    let mut err = rt.stderr();
+    if err.is_terminal() {
+        let _ = write_of_file(&mut err, what, Some(Word(name)));
+    }
+}
+
 /// The line beside that of a fault.
 fn write_hint(out: &mut impl Write, said: &Said, fault: &Fault) -> io::Result<()> {
     match fault {
