@@ -1,14 +1,14 @@
 mod MappedAt
 mod Pieces
 mod Members
-mod ReadJobs
-mod RunPlaces
+pub mod ReadJobs
+pub mod RunPlaces
 mod Readers
 mod SentPlaces
 mod LinkPlaces
-mod Deadlines
+pub mod Deadlines
 mod StoringNodes
-mod Chains
+pub mod Chains
 mod Rounds
 mod Frames
 mod Shared

@@ -1,9 +1,16 @@
 -- By when jobs have to end.
 use Rattle.std.specs.Prelude.{ℕ, ◌+◌, ◌-◌, ◌*◌, ◌==◌, List, ◌∷◌, length, slice_index, map, filter, fold, min}
 use Rattle.std.specs.List.{range_with_len}
+use Rattle.rates_model.specs.declared.parts.Chain.{Chain}
 use Rattle.rates_model.specs.Rates.{Rates, process_at, period_of}
 use Rattle.rates_model.specs.Cycles.{horizon_of}
-use Rattle.rates_model.specs.Ages.{age_deadline, last_of, wait_of}
+use Rattle.rates_model.specs.Reads.{job_from_all}
+use Rattle.rates_model.specs.Ages.{age_deadline, carried, cycles_back, first_of, last_of, release_from_all, wait_of}
+
+-- When the job of a chain's first process may begin whose value job k of the last one carries, so many cycles on that none on the
+-- way is before all.
+abbrev pub carried_release : Rates → Chain → ℕ → ℕ
+carried_release rho chain k = release_from_all rho (first_of chain) (carried rho chain.through (job_from_all rho (last_of chain) (cycles_back chain) k))
 
 -- by when the chains that end with a process want its job k to end
 abbrev pub age_deadlines : Rates → ℕ → ℕ → List ℕ

@@ -13,6 +13,7 @@ mod stores;
 mod tables;
 mod unrolling;
 
+pub use carrying::{carried_release, waits_along};
 pub use fault::TableFault;
 pub use tables::{UnrolledTables, tables_of};
 pub use unrolling::{UnrollFault, Unrollable, unroll};

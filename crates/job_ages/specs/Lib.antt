@@ -1,0 +1,4 @@
+pub mod Extremes
+pub mod Spreads
+pub mod Ages
+pub mod Bounds

@@ -1,0 +1,12 @@
+//! What holds of the jobs of a valid plan of several rates for ever: by how much their starts vary, how long after their releases they
+//! end, and how old what chains carry is.
+#![tactic(auto)]
+
+mod ages;
+mod first_jobs;
+mod laws;
+mod spreads;
+
+pub use ages::chain_age;
+pub use laws::ages_are_bounds;
+pub use spreads::{Spread, spread_of};
