@@ -56,7 +56,7 @@ module _ (rho : Rates) where
   behind_long : length behind ≡ total storing (length rho.messages)
   behind_long = ap length behind_is ∙ (pieces_length (λ m. stores rho (message_at rho m)) (length rho.messages) ∙ stores_before (length rho.messages))
 
-  all_long : length (unrolled_processes rho) ≡ all_jobs rho + total storing (length rho.messages)
+  pub all_long : length (unrolled_processes rho) ≡ all_jobs rho + total storing (length rho.messages)
   all_long = omega (arith, length-append front behind, front_long, behind_long)
 
   job_place : (p k : ℕ) → job_index rho p k ≡ total (jobs_of rho) p + k

@@ -1,3 +1,5 @@
 pub mod Endings
 pub mod Lines
 pub mod Answers
+pub mod Cycles
+pub mod Repeats

@@ -1,0 +1,4 @@
+mod Tops
+mod ForEver
+mod OtherBounds
+mod Bounded
