@@ -1,1 +1,3 @@
 pub mod Unrollings
+pub mod Repeatings
+pub mod LinesAdded
