@@ -1,10 +1,11 @@
 -- A plan is valid with a lesser bound on a chain's age just where it is valid and what the chain carries is never older.
-use Rattle.std.proofs.Common.{◌≡◌, ◌≢◌, ◌∙◌, ◌↔◌, ℕ, ◌+◌, ◌-◌, ◌*◌, ◌<◌, ◌≤◌, length, slice_index, All, arith, inl, inr, refl, sym, ap}
+use Rattle.std.proofs.Common.{◌≡◌, ◌≢◌, ◌∙◌, ◌↔◌, ℕ, ◌+◌, ◌-◌, ◌*◌, ◌<◌, ◌≤◌, length, slice_index, All, arith, inl, inr, refl, sym, ap, subst}
 use Rattle.std.proofs.lemmas.Bool.{cases_eq}
 use Rattle.ttp_model.specs.declared.error.Place.TheVariants as spot
 use Rattle.ttp_model.specs.declared.parts.Process.{Process}
 use Rattle.ttp_model.specs.declared.plan.Plan.{Plan}
 use Rattle.ttp_model.specs.Instance as instance
+use Rattle.ttp_model.specs.Instance.{Instance}
 use Rattle.ttp_model.specs.Rules.{IsInstance}
 use Rattle.ttp_model.specs.Plans.{Ends, EndsInTime, IsValid, Keeps, Releases, end_of}
 use Rattle.rates_model.specs.declared.error.RatesPlace.TheVariants.{AtChain}
@@ -61,8 +62,11 @@ module _ (rho : Rates) (plan : Plan) (x most : ℕ) (w : IsRates rho) (i : IsIns
   young_of_other p k e young y there last =
       let by = young y (omega (arith, there, chains_many rho x most)) (last_same rho x most y inside ∙ last) in
       elim (cases_eq y x) [
-        | inl same ↦ (let at_x : e ≤ bound k = rw (deadline_of_it rho x most k inside) at (rw same at by) in rw same (omega (arith, at_x, less)))
-        | inr differs ↦ rw (deadline_of_others rho x most y k differs) at by
+        | inl same ↦
+            let at_x = subst (λ (z : ℕ). e ≤ age_deadline other (chain_at other z) k) same by in
+            let within : e ≤ bound k = omega (arith, at_x, deadline_of_it rho x most k inside) in
+            subst (λ (z : ℕ). e ≤ age_deadline rho (chain_at rho z) k) (sym same) (omega (arith, within, less))
+        | inr differs ↦ omega (arith, by, deadline_of_others rho x most y k differs)
       ]
 
   young_in_other : (p k e : ℕ) → EndsYoung rho p k e → (last_of (chain_at rho x) ≡ p → e ≤ bound k) → EndsYoung other p k e
@@ -70,8 +74,10 @@ module _ (rho : Rates) (plan : Plan) (x most : ℕ) (w : IsRates rho) (i : IsIns
       let here : y < length rho.chains = omega (arith, there, chains_many rho x most) in
       let ends_here : last_of (chain_at rho y) ≡ p = sym (last_same rho x most y inside) ∙ last in
       elim (cases_eq y x) [
-        | inl same ↦ rw (same, deadline_of_it rho x most k inside) (within (rw same at ends_here))
-        | inr differs ↦ rw (deadline_of_others rho x most y k differs) (young y here ends_here)
+        | inl same ↦
+            let at_x = within (subst (λ (z : ℕ). last_of (chain_at rho z) ≡ p) same ends_here) in
+            subst (λ (z : ℕ). e ≤ age_deadline other (chain_at other z) k) (sym same) (omega (arith, at_x, deadline_of_it rho x most k inside))
+        | inr differs ↦ omega (arith, young y here ends_here, deadline_of_others rho x most y k differs)
       ]
 
   -- each deadline in the other instance
@@ -79,10 +85,13 @@ module _ (rho : Rates) (plan : Plan) (x most : ℕ) (w : IsRates rho) (i : IsIns
   process_in it at = instance.process_at (unrolled it) at
 
   deadline_in_other : (p k : ℕ) → IsRun rho (Job p k) → (process_in other (place_of rho (Job p k))).deadline ≡ job_deadline other p k
-  deadline_in_other p k there = rw (place_same rho x most (Job p k)) at (to_end_by other p k (run_same rho x most (Job p k) there))
+  deadline_in_other p k there =
+      ap (λ (at : ℕ). (process_in other at).deadline) (sym (place_same rho x most (Job p k))) ∙ to_end_by other p k (run_same rho x most (Job p k) there)
 
   store_in_other : (m place : ℕ) → IsRun rho (Store m place) → (process_in other (place_of rho (Store m place))).deadline ≡ horizon_of rho
-  store_in_other m place there = rw (place_same rho x most (Store m place)) at (to_store_by other m place (run_same rho x most (Store m place) there)) ∙ horizon_same rho x most
+  store_in_other m place there =
+      ap (λ (at : ℕ). (process_in other at).deadline) (sym (place_same rho x most (Store m place)))
+      ∙ (to_store_by other m place (run_same rho x most (Store m place) there) ∙ horizon_same rho x most)
 
   in_other : (at : ℕ) → at < length (unrolled_processes rho) → at < length (unrolled_processes other)
   in_other at there = omega (arith, there, (differ_in_times rho x most).all)
@@ -113,11 +122,11 @@ module _ (rho : Rates) (plan : Plan) (x most : ℕ) (w : IsRates rho) (i : IsIns
     valid_of_other : IsValid (unrolled rho) plan
     valid_of_other =
         let none : (at : ℕ) → at < length (unrolled_processes other) → (process_in rho at).wcet ≤ (process_in other at).wcet
-            = λ at there. omega (arith, wcet_same rho x most at (in_own at there)) in
+        = λ at there. omega (arith, wcet_same rho x most at (in_own at there)) in
         let released : Keeps (unrolled rho) plan Releases
-            = λ at there. omega (arith, v.released at (in_other at there), release_same rho x most at there) in
-        let in_time : Keeps (unrolled rho) plan Ends = λ at there. (let run = run_at rho at there in rw run.2 at (in_time_own run.0 run.1)) in
-        rw (own_is rho x most) at (valid_across (unrolled other) (horizon_of rho) (unrolled_processes rho) (turned _ _ (differ_in_times rho x most)) plan v none released in_time)
+        = λ at there. omega (arith, v.released at (in_other at there), release_same rho x most at there) in
+        let in_time : Keeps (unrolled rho) plan Ends = λ at there. (let run = run_at rho at there in subst (EndsInTime (unrolled rho) plan) run.2 (in_time_own run.0 run.1)) in
+        subst (λ (it : Instance). IsValid it plan) (own_is rho x most) (valid_across (unrolled other) (horizon_of rho) (unrolled_processes rho) (turned _ _ (differ_in_times rho x most)) plan v none released in_time)
       where
         in_own : (at : ℕ) → at < length (unrolled_processes other) → at < length (unrolled_processes rho)
         in_own at there = omega (arith, there, (differ_in_times rho x most).all)
@@ -127,14 +136,14 @@ module _ (rho : Rates) (plan : Plan) (x most : ℕ) (w : IsRates rho) (i : IsIns
         let last = last_of (chain_at rho x) in
         let there = last_there has.job has.there in
         let young = (job_tells last has.job there).2 x (omega (arith, inside, chains_many rho x most)) (last_same rho x most x inside) in
-        let by : ends last has.job ≤ bound has.job = rw (deadline_of_it rho x most has.job inside) at young in
+        let by : ends last has.job ≤ bound has.job = omega (arith, young, deadline_of_it rho x most has.job inside) in
         omega (arith, by, runs last has.job there, age_is_late rho plan w (chain_at rho x) some all age has)
 
   module _ (v : IsValid (unrolled rho) plan) (ages : AreAgesWithin rho plan (chain_at rho x) most) where
     within_bound : (p k : ℕ) → IsRun rho (Job p k) → last_of (chain_at rho x) ≡ p → ends p k ≤ bound k
     within_bound p k there last =
-        let here : k < jobs_of rho (last_of (chain_at rho x)) = rw last there.1 in
-        let young = ages (late_age rho plan w (chain_at rho x) some all k) (has_late_age rho plan w (chain_at rho x) some all k here) in
+        let here : k < jobs_of rho (last_of (chain_at rho x)) = subst (λ (q : ℕ). k < jobs_of rho q) (sym last) there.1 in
+        let young = ages (late_age rho plan (chain_at rho x) k) (has_late_age rho plan w (chain_at rho x) some all k here) in
         omega (arith, young, ap (λ (q : ℕ). ends q k) last)
 
     in_time_other : (run : Run) → IsRun rho run → EndsInTime (unrolled other) plan (place_of rho run)
@@ -154,11 +163,11 @@ module _ (rho : Rates) (plan : Plan) (x most : ℕ) (w : IsRates rho) (i : IsIns
     valid_in_other : IsValid (unrolled other) plan
     valid_in_other =
         let none : (at : ℕ) → at < length (unrolled_processes rho) → (process_in other at).wcet ≤ (process_in rho at).wcet
-            = λ at there. omega (arith, wcet_same rho x most at there) in
+        = λ at there. omega (arith, wcet_same rho x most at there) in
         let released : Keeps (unrolled other) plan Releases
-            = λ at there. omega (arith, v.released at (in_own at there), release_same rho x most at (in_own at there)) in
-        let in_time : Keeps (unrolled other) plan Ends = λ at there. (let run = run_at rho at (in_own at there) in rw run.2 at (in_time_other run.0 run.1)) in
-        rw (other_is rho x most) at (valid_across (unrolled rho) (horizon_of rho) (unrolled_processes other) (differ_in_times rho x most) plan v none released (rw (horizon_same rho x most) at in_time))
+        = λ at there. omega (arith, v.released at (in_own at there), release_same rho x most at (in_own at there)) in
+        let in_time : Keeps (unrolled other) plan Ends = λ at there. (let run = run_at rho at (in_own at there) in subst (EndsInTime (unrolled other) plan) run.2 (in_time_other run.0 run.1)) in
+        subst (λ (it : Instance). IsValid it plan) (other_is rho x most) (valid_across (unrolled rho) (horizon_of rho) (unrolled_processes other) (differ_in_times rho x most) plan v none released in_time)
       where
         in_own : (at : ℕ) → at < length (unrolled_processes other) → at < length (unrolled_processes rho)
         in_own at there = omega (arith, there, (differ_in_times rho x most).all)

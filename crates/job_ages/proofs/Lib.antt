@@ -1,4 +1,5 @@
 mod Tops
 mod ForEver
+mod OneAge
 mod OtherBounds
 mod Bounded

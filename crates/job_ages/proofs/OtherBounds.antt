@@ -1,5 +1,5 @@
 -- With another bound on a chain's age all is as it was in the instance of one cycle, but by when jobs have to end.
-use Rattle.std.proofs.Common.{◌≡◌, ◌≢◌, ◌∙◌, ℕ, ◌+◌, ◌-◌, ◌*◌, ◌<◌, ◌≤◌, List, [], ◌∷◌, length, slice_index, slice_index_or, slice_set, arith, inl, inr, refl, sym, ap}
+use Rattle.std.proofs.Common.{◌≡◌, ◌≢◌, ◌∙◌, ℕ, ◌+◌, ◌-◌, ◌*◌, ◌<◌, ◌≤◌, List, [], ◌∷◌, length, slice_index, slice_index_or, slice_set, arith, inl, inr, refl, sym, ap, subst}
 use Rattle.std.proofs.lemmas.Bool.{cases_eq}
 use Rattle.std.proofs.lemmas.List.{get_or-set_other, get_or-set_same, length-set}
 use Rattle.ttp_model.specs.declared.parts.Process.{Process}
@@ -68,7 +68,9 @@ module _ (rho : Rates) (x most : ℕ) where
       ∙ ap undated (store_at other m place (run_same (Store m place) there)) ∙ ap undated (store_same m place) ∙ ap undated (sym (store_at rho m place there))
 
   undated_at : (p : ℕ) → p < length (unrolled_processes rho) → undated (instance.process_at (unrolled other) p) ≡ undated (instance.process_at (unrolled rho) p)
-  undated_at p inside = let run = run_at rho p inside in rw run.2 at (undated_run run.0 run.1)
+  undated_at p inside =
+      let run = run_at rho p inside in
+      subst (λ (at : ℕ). undated (instance.process_at (unrolled other) at) ≡ undated (instance.process_at (unrolled rho) at)) run.2 (undated_run run.0 run.1)
 
   pub wcet_same : (p : ℕ) → p < length (unrolled_processes rho) → (instance.process_at (unrolled other) p).wcet ≡ (instance.process_at (unrolled rho) p).wcet
   wcet_same p inside = ap (λ (at : Process). at.wcet) (undated_at p inside)
@@ -115,7 +117,7 @@ module _ (rho : Rates) (x most : ℕ) where
   -- where its last process ends, and by when
   pub last_same : (y : ℕ) → x < length rho.chains → last_of (chain_at other y) ≡ last_of (chain_at rho y)
   last_same y inside = elim (cases_eq y x) [
-    | inl same ↦ rw same (ap last_of (chain_is inside))
+    | inl same ↦ ap (λ (z : ℕ). last_of (chain_at other z)) same ∙ (ap last_of (chain_is inside) ∙ ap (λ (z : ℕ). last_of (chain_at rho z)) (sym same))
     | inr differs ↦ ap last_of (chain_same y differs)
   ]
 

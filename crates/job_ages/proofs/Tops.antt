@@ -1,5 +1,5 @@
 -- The greatest and the least of what is seen of numbers, one after another.
-use Rattle.std.proofs.Common.{◌≡◌, ◌⊎◌, ℕ, zero, suc, ◌+◌, ◌<◌, ◌≤◌, max, min, arith, inl, inr, refl}
+use Rattle.std.proofs.Common.{◌≡◌, ◌⊎◌, ℕ, zero, suc, ◌+◌, ◌<◌, ◌≤◌, max, min, arith, inl, inr, refl, add-one}
 use Rattle.std.proofs.lemmas.Bool.{cases_eq, cases_lt}
 use Rattle.ttp_model.specs.Lists.{EachBelow}
 
@@ -23,7 +23,7 @@ seen_more f n x seen = (seen.0, omega (arith, seen.1), seen.2)
 
 module _ (f : ℕ → ℕ) (n x y z : ℕ) (is : y ≡ f n) where
   pub top_more : IsTop f n x → z ≡ max x y → IsTop f (n + 1) z
-  top_more top greater = record { above = above; seen = elim (cases_lt y x) [ | inl less ↦ kept less top.seen | inr new ↦ inr (n, omega arith, omega (arith, is, greater, new)) ] }
+  top_more top greater = record { above = above; seen = elim (cases_lt y x) [ inl less ↦ kept less top.seen | inr new ↦ inr (n, omega arith, omega (arith, is, greater, new)) ] }
     where
       above : EachBelow (n + 1) (λ k. f k ≤ z)
       above k inside = elim (cases_eq k n) [
@@ -36,7 +36,7 @@ module _ (f : ℕ → ℕ) (n x y z : ℕ) (is : y ≡ f n) where
       kept less (inr seen) = inr (seen.0, omega (arith, seen.1), omega (arith, seen.2, greater, less))
 
   pub bottom_more : (most : ℕ) → y ≤ most → IsBottom f most n x → z ≡ min x y → IsBottom f most (n + 1) z
-  bottom_more most within bottom less = record { below = below; seen = elim (cases_lt x y) [ | inl greater ↦ kept greater bottom.seen | inr new ↦ inr (n, omega arith, omega (arith, is, less, new)) ] }
+  bottom_more most within bottom less = record { below = below; seen = elim (cases_lt x y) [ inl greater ↦ kept greater bottom.seen | inr new ↦ inr (n, omega arith, omega (arith, is, less, new)) ] }
     where
       below : EachBelow (n + 1) (λ k. z ≤ f k)
       below k inside = elim (cases_eq k n) [
@@ -59,3 +59,10 @@ bottom_none f most n x none is = record { below = λ k inside. absurd (omega (ar
 pub some_seen : (f : ℕ → ℕ) (n x y : ℕ) → 0 < n → ((n ≡ 0) × (x ≡ y)) ⊎ IsSeen f n x → IsSeen f n x
 some_seen f n x y some (inl none) = absurd (omega (arith, some, none.0))
 some_seen f n x y some (inr seen) = seen
+
+-- there always is a greatest
+pub some_top : (f : ℕ → ℕ) (n : ℕ) → (x : ℕ) × IsTop f n x
+some_top f zero = (0, top_none f 0 0 refl refl)
+some_top f (suc n) =
+    let before = some_top f n in
+    (max before.0 (f n), rw add-one (top_more f n before.0 (f n) (max before.0 (f n)) refl before.1 refl))

@@ -34,19 +34,14 @@ fn greatest_age(rates: &Rates, plan: &Plan, chain: &Chain, waits: &[u32]) -> u64
     for k in 0..rates.jobs_of(last) {
         let end = u64::from(starts[first + k as usize]) + wcet;
         let age = (back + end).saturating_sub(carried_release(rates, chain, waits, k));
-        greatest = age.max(greatest);
+        greatest = greatest.max(age);
     }
     greatest
 }
 
 /// The age of chain `x`, for ever, in a valid plan of the instance of one cycle. For each of its places a pass over links and messages,
 /// and for each job of its last process a step for each place.
-pub fn chain_age(
-    alloc: Global,
-    rates: &Rates,
-    plan: &Plan,
-    x: usize,
-) -> Result<u64, MemoryFault>
+pub fn chain_age(alloc: Global, rates: &Rates, plan: &Plan, x: usize) -> Result<u64, MemoryFault>
     requires inside { x < length rates.now.chains }
     requires valid { IsValid (unrolled rates.now) plan.now }
     ensures { IfOk result (IsAge rates.now plan.now (chain_at rates.now x)) }

@@ -8,5 +8,5 @@ mod laws;
 mod spreads;
 
 pub use ages::chain_age;
-pub use laws::ages_are_bounds;
+pub use laws::{ages_are_bounds, chains_have_one_age};
 pub use spreads::{Spread, spread_of};

@@ -14,9 +14,9 @@ use ttp_model::Plan;
 #[derive(Clone, Copy, PartialEq, Eq)]
 pub struct Spread {
     /// The greatest start, from the begin of its period, less the least.
-    pub jitter: u32,
+    pub jitter: u64,
     /// The greatest end, from its release.
-    pub response: u32,
+    pub response: u64,
 }
 
 /// The spread of a process in a valid plan of the instance of one cycle. A step for each job of it, and for each process before it.
@@ -28,15 +28,16 @@ pub fn spread_of(rates: &Rates, plan: &Plan, p: usize) -> Spread
     let process = rates.process_at(p);
     let starts = plan.starts.as_slice();
     let first = first_job(rates, p);
-    let mut earliest = u32::MAX;
+    let mut earliest = u64::MAX;
     let mut latest = 0;
     for k in 0..rates.jobs_of(p) {
-        let start = starts[first + k as usize].saturating_sub(rates.begin_of(p, k));
+        let at = u64::from(starts[first + k as usize]);
+        let start = at.saturating_sub(u64::from(rates.begin_of(p, k)));
         earliest = earliest.min(start);
         latest = latest.max(start);
     }
     Spread {
-        jitter: latest - earliest,
-        response: (latest + process.wcet).saturating_sub(process.release),
+        jitter: latest.saturating_sub(earliest),
+        response: (latest + u64::from(process.wcet)).saturating_sub(u64::from(process.release)),
     }
 }

@@ -17,8 +17,13 @@ use ttp_model::{Instance, MemoryFault, Plan};
 fn put_rounds(text: &mut String, told: &RatesCycle) -> Result<(), AllocError>
     ensures { OnOk result (string_bytes text.new ≡ string_bytes text.old ++ rounds_text told.now) }
 {
-    let (finer, period, round, rounds, gap) =
-        (told.finer, told.period, told.round, told.rounds, told.gap);
+    let (finer, period, round, rounds, gap) = (
+        told.finer,
+        told.period,
+        told.round,
+        told.rounds,
+        told.gap,
+    );
     writeln!(
         text,
         "ttrepeat 1\nfiner {finer}\nperiod {period}\nround {round}\nrounds {rounds}\ngap {gap}"
@@ -49,11 +54,7 @@ fn put_counts(text: &mut String, told: &RatesCycle) -> Result<(), AllocError>
 
 /// The text of a cluster, with the instance of its cycle: the lines `ttrepeat 1`, `finer`, `period`, `round`, `rounds` and `gap`, where
 /// there is a gap `near BELOW ABOVE`, and `processes`, `links` and `messages`.
-pub fn print_cycle(
-    alloc: Global,
-    rates: &Rates,
-    instance: &Instance,
-) -> Result<String, AllocError>
+pub fn print_cycle(alloc: Global, rates: &Rates, instance: &Instance) -> Result<String, AllocError>
     requires { instance.now ≡ unrolled rates.now }
     ensures { IfOk result (λ text. IsCycleText rates.now (string_bytes text)) }
 {
