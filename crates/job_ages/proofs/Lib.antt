@@ -1,5 +1,6 @@
 mod Tops
 mod ForEver
+mod Reading
 mod OneAge
 mod OtherBounds
 mod Bounded

@@ -11,6 +11,7 @@ pub fn first_job(rates: &Rates, p: usize) -> usize
     requires { p < length rates.now.processes }
     ensures { result ≡ total (jobs_of rates.now) p }
 {
+    let _processes = rates.processes();
     let mut first = 0;
     for before in 0..p {
         first += rates.jobs_of(before) as usize;
