@@ -161,6 +161,7 @@ module _ (rho : Rates) (plan : Plan) (x most : ℕ) (w : IsRates rho) (i : IsIns
         (omega (arith, own.1, end_same at here, store_in_other m place there), omega (arith, own.1, end_same at here, horizon_same rho x most))
 
     valid_in_other : IsValid (unrolled other) plan
+    unfolding cycle
     valid_in_other =
         let none : (at : ℕ) → at < length (unrolled_processes rho) → (process_in other at).wcet ≤ (process_in rho at).wcet
         = λ at there. omega (arith, wcet_same rho x most at there) in

@@ -69,7 +69,7 @@ module _ (rho : Rates) (plan : Plan) (w : IsRates rho) where
     age_is_late age has = has.is ∙ same_age has.cycle has.job has.first has.carries
 
     pub has_late_age : (j : ℕ) → j < jobs_of rho (last_of chain) → HasAge rho plan chain (late_age rho plan chain j)
-    has_late_age rho plan chain j inside = record { cycle = cycles_back chain; job = j; first = carried_late rho chain j; there = inside; carries = far j; is = refl }
+    has_late_age j inside = record { cycle = cycles_back chain; job = j; first = carried_late rho chain j; there = inside; carries = far j; is = refl }
 
     -- the greatest over the jobs of that cycle is the age
     pub age_of_top : (age : ℕ) → IsTop (late_age rho plan chain) (jobs_of rho (last_of chain)) age → IsAge rho plan chain age

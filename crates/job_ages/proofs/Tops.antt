@@ -50,7 +50,7 @@ module _ (f : ℕ → ℕ) (n x y z : ℕ) (is : y ≡ f n) where
 
 -- before all
 pub top_none : (f : ℕ → ℕ) (n x : ℕ) → n ≡ 0 → x ≡ 0 → IsTop f n x
-top_none f n x none zero = record { above = λ k inside. absurd (omega (arith, inside, none)); seen = inl (none, zero) }
+top_none f n x none is = record { above = λ k inside. absurd (omega (arith, inside, none)); seen = inl (none, is) }
 
 pub bottom_none : (f : ℕ → ℕ) (most n x : ℕ) → n ≡ 0 → x ≡ most → IsBottom f most n x
 bottom_none f most n x none is = record { below = λ k inside. absurd (omega (arith, inside, none)); seen = inl (none, is) }
@@ -65,4 +65,4 @@ pub some_top : (f : ℕ → ℕ) (n : ℕ) → (x : ℕ) × IsTop f n x
 some_top f zero = (0, top_none f 0 0 refl refl)
 some_top f (suc n) =
     let before = some_top f n in
-    (max before.0 (f n), rw add-one (top_more f n before.0 (f n) (max before.0 (f n)) refl before.1 refl))
+    (max before.0 (f n), rw add-one at (top_more f n before.0 (f n) (max before.0 (f n)) refl before.1 refl))

@@ -25,6 +25,7 @@ pub fn spread_of(rates: &Rates, plan: &Plan, p: usize) -> Spread
     requires valid { IsValid (unrolled rates.now) plan.now }
     ensures { IsSpread rates.now plan.now p result }
 {
+    let _processes = rates.processes();
     let process = rates.process_at(p);
     let starts = plan.starts.as_slice();
     let first = first_job(rates, p);

@@ -32,4 +32,4 @@ pub use picture::draw_run;
 pub use printed::{bare_fault, printed_of_readers, read_printed};
 pub use replay::replay_run;
 pub use sheets::schedule_run;
-pub use verdict::{Verified, verified_of_readers, verified_of_text, verify};
+pub use verdict::{Verified, verified_of_readers, verify};

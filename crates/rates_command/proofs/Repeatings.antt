@@ -1,11 +1,10 @@
 -- What is told of a cluster that bytes state, and of a plan of it, is an answer of the bytes.
-use Rattle.std.proofs.Common.{◌≡◌, ℕ, List, Option, None, Some, IfSome}
+use Rattle.std.proofs.Common.{◌≡◌, ℕ, List, Option, None, Some, IfSome, subst}
 use Rattle.std.specs.Io.KnownBytes.{Keeps}
+use Rattle.ttp_model.specs.declared.plan.Plan.{Plan}
 use Rattle.ttp_model.specs.Instance.{Instance}
 use Rattle.ttp_model.specs.Rules.{IsInstance}
 use Rattle.command_streams.specs.declared.ending.Fault.{Fault}
-use Rattle.plan_commands.specs.declared.verdict.Verified.{Verified}
-use Rattle.plan_commands.specs.Verdicts.{IsVerifiedPlan}
 use Rattle.rates_model.specs.Rates.{Rates}
 use Rattle.unrolled_jobs.specs.declared.unrolling.UnrollFault.{UnrollFault}
 use Rattle.unrolled_jobs.specs.Refusals.{IsUnrollFault}
@@ -16,7 +15,7 @@ use Rattle.rates_command.specs.declared.ending.RatesEnd.{RatesEnd}
 use Rattle.rates_command.specs.declared.ending.RatesEnd.TheVariants.{Refused}
 use Rattle.rates_command.specs.Answers.{AreRefusedFor, HasRates, IsOfMemory, IsOfUnrolling, IsRatesAnswer}
 use Rattle.rates_command.specs.Cycles.{IsCycleText, IsPlanText}
-use Rattle.rates_command.specs.Repeats.{AreBothRefused, IsOfPlan, IsPlanRefusal, IsPlanRepeatAnswer, IsPlanTextOf, IsRepeatAnswer, IsToldOf}
+use Rattle.rates_command.specs.Repeats.{AreBothRefused, HasPlanOf, IsOfPlan, IsPlanRefusal, IsPlanRepeatAnswer, IsPlanTextOf, IsRepeatAnswer, IsToldOf}
 use Rattle.rates_command.proofs.Unrollings.{answered, not_unrolled, refused_so}
 
 -- of the cluster alone
@@ -38,21 +37,21 @@ module _ (rho : Rates) (plan : List ℕ) where
   of_memory Memory why = tt
   of_memory fault why = absurd why
 
-  plan_told : (v : Verified) → IsVerifiedPlan (unrolled rho) plan v → (old new : Option (List ℕ)) (end : RatesEnd)
-      → IsRatesAnswer (IsPlanText rho v.plan) IsOfMemory old new end → IsRatesAnswer (IsPlanTextOf rho plan) (IsOfPlan rho plan) old new end
-  plan_told v is old new end told =
-      answered (IsPlanText rho v.plan) (IsPlanTextOf rho plan) (λ text tells. record { verified = v; is = is; tells = tells }) IsOfMemory (IsOfPlan rho plan) of_memory old new end told
+  plan_told : (read : Plan) → HasPlanOf (unrolled rho) plan read → (old new : Option (List ℕ)) (end : RatesEnd)
+      → IsRatesAnswer (IsPlanText rho read) IsOfMemory old new end → IsRatesAnswer (IsPlanTextOf rho plan) (IsOfPlan rho plan) old new end
+  plan_told read has old new end told =
+      answered (IsPlanText rho read) (IsPlanTextOf rho plan) (λ text tells. record { plan = read; has = has; tells = tells }) IsOfMemory (IsOfPlan rho plan) of_memory old new end told
 
-pub plan_of_reader : (known : Option (List ℕ)) (rho : Rates) (i : Instance) (v : Verified) (old new : Option (List ℕ)) (end : RatesEnd) → i ≡ unrolled rho
-    → IfSome known (λ plan. IsVerifiedPlan i plan v) → IsRatesAnswer (IsPlanText rho v.plan) IsOfMemory old new end
+pub plan_of_reader : (known : Option (List ℕ)) (rho : Rates) (i : Instance) (read : Plan) (old new : Option (List ℕ)) (end : RatesEnd) → i ≡ unrolled rho
+    → IfSome known (λ plan. HasPlanOf i plan read) → IsRatesAnswer (IsPlanText rho read) IsOfMemory old new end
     → IfSome known (λ plan. IsRatesAnswer (IsPlanTextOf rho plan) (IsOfPlan rho plan) old new end)
-plan_of_reader None rho i v old new end of is told = tt
-plan_of_reader (Some plan) rho i v old new end of is told = plan_told rho plan v (rw of at is) old new end told
+plan_of_reader None rho i read old new end of has told = tt
+plan_of_reader (Some plan) rho i read old new end of has told = plan_told rho plan read (subst (λ (it : Instance). HasPlanOf it plan read) of has) old new end told
 
 pub plan_refused : (known : Option (List ℕ)) (rho : Rates) (i : Instance) (fault : Fault) (old : Option (List ℕ)) → i ≡ unrolled rho → IsInstance i → Keeps old old
     → IfSome known (λ plan. IsPlanRefusal i plan fault) → IfSome known (λ plan. IsRatesAnswer (IsPlanTextOf rho plan) (IsOfPlan rho plan) old old (Refused (OfPlan fault)))
 plan_refused None rho i fault old of keeps kept why = tt
-plan_refused (Some plan) rho i fault old of keeps kept why = ((rw of at keeps, rw of at why), kept)
+plan_refused (Some plan) rho i fault old of keeps kept why = ((subst IsInstance of keeps, subst (λ (it : Instance). IsPlanRefusal it plan fault) of why), kept)
 
 pub plan_unrolled : (known : Option (List ℕ)) (rho : Rates) (fault : UnrollFault) (old : Option (List ℕ)) → Keeps old old → IsUnrollFault rho fault
     → IfSome known (λ plan. IsRatesAnswer (IsPlanTextOf rho plan) (IsOfPlan rho plan) old old (Refused (Unrolled fault)))

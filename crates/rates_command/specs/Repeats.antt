@@ -6,8 +6,8 @@ use Rattle.command_streams.specs.declared.limits.TheConstants.{PLAN_LIMIT}
 use Rattle.command_streams.specs.declared.ending.Source.TheVariants as source
 use Rattle.command_streams.specs.declared.ending.Fault.{Fault}
 use Rattle.command_streams.specs.declared.ending.Fault.TheVariants as fault
-use Rattle.plan_commands.specs.declared.verdict.Verified.{Verified}
-use Rattle.plan_commands.specs.Verdicts.{IsPlanFault, IsVerifiedPlan}
+use Rattle.ttp_model.specs.declared.plan.Plan.{Plan}
+use Rattle.plan_commands.specs.Verdicts.{HasValidPlan, IsPlanFault}
 use Rattle.rates_model.specs.Rates.{Rates}
 use Rattle.unrolled_jobs.specs.Unrolled.{unrolled}
 use Rattle.unrolled_jobs.specs.Refusals.{IsUnrollFault}
@@ -28,11 +28,16 @@ pub record IsToldOf (Tells : Rates → List ℕ → Type 0) (bytes text : List �
 abbrev pub IsRepeatAnswer : List ℕ → Option (List ℕ) → Option (List ℕ) → RatesEnd → Type 0
 IsRepeatAnswer bytes = IsRatesAnswer (IsToldOf IsCycleText bytes) (AreRefusedFor bytes)
 
--- bytes spell a valid plan of the instance of a cycle, and this is told of it
-pub record IsPlanTextOf (rho : Rates) (plan text : List ℕ) : Type 0 where
-  pub verified : Verified
-  pub is : IsVerifiedPlan (unrolled rho) plan verified
-  pub tells : IsPlanText rho verified.plan text
+-- bytes spell this plan of an instance, which is valid and states its own delay
+pub record HasPlanOf (i : Instance) (bytes : List ℕ) (plan : Plan) : Type 0 where
+  pub delay : ℕ
+  pub is : HasValidPlan i bytes plan delay
+
+-- bytes spell such a plan of the instance of a cycle, and this is told of it
+pub record IsPlanTextOf (rho : Rates) (bytes text : List ℕ) : Type 0 where
+  pub plan : Plan
+  pub has : HasPlanOf (unrolled rho) bytes plan
+  pub tells : IsPlanText rho plan text
 
 -- why a reader gives no valid plan of an instance: as `verify`
 abbrev pub IsPlanRefusal : Instance → List ℕ → Fault → Type 0

@@ -82,7 +82,8 @@ fn put_process(text: &mut String, rates: &Rates, plan: &Plan, p: usize) -> Resul
     ensures { OnOk result (AddsLine (IsProcessLine rates.now plan.now p) (string_bytes text.old) (string_bytes text.new)) }
 {
     let spread = spread_of(rates, plan, p);
-    put_spread(text, rates.process_at(p).name.as_str(), spread)
+    put_spread(text, rates.process_at(p).name.as_str(), spread)?;
+    Ok(())
 }
 
 /// Adds the lines of all processes.

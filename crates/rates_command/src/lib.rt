@@ -7,6 +7,7 @@ mod ending;
 mod limits;
 mod lines;
 mod named;
+mod plan;
 mod reading;
 mod repeat;
 mod reporting;

@@ -1,26 +1,25 @@
 //! What does `repeat` say of a cluster of several rates, and of a plan of its cycle?
 
-ghost use Rattle.std.specs.Prelude.{◌≡◌, ◌+◌, IfOk, IfSome, MatchResult};
+ghost use Rattle.std.specs.Prelude.{◌≡◌, ◌+◌, IfSome};
 ghost use Rattle.std.specs.Io.KnownBytes.{Keeps};
 ghost use Rattle.ttp_model.specs.Plans.{IsValid};
 ghost use Rattle.command_streams.specs.declared.limits.TheConstants.{PLAN_LIMIT};
 ghost use Rattle.command_streams.specs.Streams.{TakesAtMost};
-ghost use Rattle.plan_commands.specs.Verdicts.{IsVerifiedPlan};
 ghost use Rattle.unrolled_jobs.specs.Unrolled.{unrolled};
 ghost use Rattle.rates_command.specs.declared.limits.TheConstants.{RATES_LIMIT};
 ghost use Rattle.rates_command.specs.Answers.{IsOfMemory, IsOfUnrolling, IsRatesAnswer};
 ghost use Rattle.rates_command.specs.Cycles.{IsCycleText, IsPlanText};
-ghost use Rattle.rates_command.specs.Repeats.{IfRatesRefused, IsOfPlan, IsOfRates, IsPlanRefusal, IsPlanRepeatAnswer, IsPlanTextOf, IsRepeatAnswer};
+ghost use Rattle.rates_command.specs.Repeats.{IfRatesRefused, IsOfPlan, IsOfRates, IsPlanRepeatAnswer, IsPlanTextOf, IsRepeatAnswer};
 
 use crate::cycle_text::{print_cycle, print_plan};
 use crate::ending::{RatesEnd, RatesFault};
+use crate::plan::read_plan;
 use crate::reading::read_rates;
-use command_streams::{Fault, PLAN_LIMIT, Source, read_all, write_text};
-use plan_commands::{Verified, verified_of_text};
+use command_streams::write_text;
 use rates_model::Rates;
 use std::alloc::Global;
 use std::io::{Read, Write};
-use ttp_model::Instance;
+use ttp_model::{Instance, Plan};
 use unrolled_jobs::unroll;
 
 /// Writes what is told of a cluster, with the instance of its cycle.
@@ -62,26 +61,19 @@ pub fn repeat_run<I: Read, W: Write>(alloc: Global, rates: &mut I, out: &mut W) 
     }
 }
 
-/// The valid plan of an instance that a reader's bytes spell, judged as by `verify`.
-fn read_plan<P: Read>(alloc: Global, instance: Instance, plan: &mut P) -> Result<Verified, Fault>
-    ensures judged { IfSome (P.remaining plan.old) (λ bytes. MatchResult result
-        (IsVerifiedPlan instance bytes)
-        (IsPlanRefusal instance bytes)) }
-    ensures of { IfOk result (λ v. v.instance ≡ instance) }
-    ensures valid { IfOk result (λ v. IsValid v.instance v.plan) }
-    ensures most { TakesAtMost (PLAN_LIMIT + 1) (P.remaining plan.old) (P.remaining plan.new) }
-{
-    let bytes = read_all(alloc, plan, PLAN_LIMIT, Source::Plan)?;
-    verified_of_text(alloc, instance, bytes.as_slice())
-}
-
 /// Writes what is told of a cluster and a valid plan of its cycle.
-fn write_plan<W: Write>(alloc: Global, rates: &Rates, verified: &Verified, out: &mut W) -> RatesEnd
-    requires of { verified.now.instance ≡ unrolled rates.now }
-    requires valid { IsValid verified.now.instance verified.now.plan }
-    ensures { IsRatesAnswer (IsPlanText rates.now verified.now.plan) IsOfMemory (W.contents out.old) (W.contents out.new) result }
+fn write_plan<W: Write>(
+    alloc: Global,
+    rates: &Rates,
+    instance: &Instance,
+    plan: &Plan,
+    out: &mut W,
+) -> RatesEnd
+    requires of { instance.now ≡ unrolled rates.now }
+    requires valid { IsValid instance.now plan.now }
+    ensures { IsRatesAnswer (IsPlanText rates.now plan.now) IsOfMemory (W.contents out.old) (W.contents out.new) result }
 {
-    match print_plan(alloc, rates, &verified.instance, &verified.plan) {
+    match print_plan(alloc, rates, instance, plan) {
         Err(_) => RatesEnd::Refused(RatesFault::Memory),
         Ok(text) => match write_text(out, text.as_bytes()) {
             Ok(()) => RatesEnd::Done,
@@ -94,20 +86,21 @@ fn write_plan<W: Write>(alloc: Global, rates: &Rates, verified: &Verified, out: 
 fn write_read_plan<P: Read, W: Write>(
     alloc: Global,
     rates: &Rates,
-    instance: Instance,
+    instance: &Instance,
     plan: &mut P,
     out: &mut W,
 ) -> RatesEnd
-    requires { instance ≡ unrolled rates.now }
+    requires { instance.now ≡ unrolled rates.now }
     ensures answer { IfSome (P.remaining plan.old) (λ bytes. IsRatesAnswer (IsPlanTextOf rates.now bytes) (IsOfPlan rates.now bytes)
         (W.contents out.old) (W.contents out.new) result) }
     ensures plan { TakesAtMost (PLAN_LIMIT + 1) (P.remaining plan.old) (P.remaining plan.new) }
     ensures later { IfRatesRefused result (λ fault. ¬ IsOfRates fault) }
 {
+    let _nodes = instance.nodes();
     match read_plan(alloc, instance, plan) {
-        Ok(verified) => {
-            let end = write_plan(alloc, rates, &verified, out);
-            drop(verified);
+        Ok(read) => {
+            let end = write_plan(alloc, rates, instance, &read, out);
+            drop(read);
             end
         }
         Err(fault) => RatesEnd::Refused(RatesFault::OfPlan(fault)),
@@ -127,7 +120,7 @@ fn write_plan_repeat<P: Read, W: Write>(
     ensures order { IfRatesRefused result (λ fault. IsOfRates fault → Keeps (P.remaining plan.old) (P.remaining plan.new)) }
 {
     match unroll(alloc, rates) {
-        Ok(instance) => write_read_plan(alloc, rates, instance, plan, out),
+        Ok(instance) => write_read_plan(alloc, rates, &instance, plan, out),
         Err(fault) => RatesEnd::Refused(RatesFault::Unrolled(fault)),
     }
 }
