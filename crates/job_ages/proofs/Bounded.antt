@@ -1,5 +1,5 @@
 -- A plan is valid with a lesser bound on a chain's age just where it is valid and what the chain carries is never older.
-use Rattle.std.proofs.Common.{◌≡◌, ◌≢◌, ◌∙◌, ◌↔◌, ℕ, ◌+◌, ◌-◌, ◌*◌, ◌<◌, ◌≤◌, length, slice_index, All, arith, inl, inr, refl, sym, ap, subst}
+use Rattle.std.proofs.Common.{◌≡◌, ◌∙◌, ◌↔◌, ℕ, ◌+◌, ◌-◌, ◌*◌, ◌<◌, ◌≤◌, length, slice_index, All, arith, inl, inr, sym, ap, subst}
 use Rattle.std.proofs.lemmas.Bool.{cases_eq}
 use Rattle.ttp_model.specs.declared.error.Place.TheVariants as spot
 use Rattle.ttp_model.specs.declared.parts.Process.{Process}
@@ -13,10 +13,9 @@ use Rattle.rates_model.specs.Rates.{Rates, chain_at, period_of, process_at}
 use Rattle.rates_model.specs.Cycles.{cycle, horizon_of, jobs_of}
 use Rattle.rates_model.specs.Ages.{age_deadline, cycles_back, last_of}
 use Rattle.rates_model.specs.Rules.{IsRates}
-use Rattle.unrolled_jobs.specs.Stores.{job_index}
 use Rattle.unrolled_jobs.specs.Times.{carried_release, job_deadline}
 use Rattle.unrolled_jobs.specs.Unrolled.{unrolled, unrolled_processes}
-use Rattle.endless_schedules.specs.Runs.{IsRun, Job, Run, Store, place_of, ticks_of}
+use Rattle.endless_schedules.specs.Runs.{IsRun, Job, Run, Store, place_of}
 use Rattle.endless_schedules.proofs.Deadlines.{EndsYoung, in_time_from, in_time_tells}
 use Rattle.endless_schedules.proofs.RunPlaces.{place_inside, run_at, ticks_are, to_end_by, to_store_by}
 use Rattle.instance_variants.proofs.Varied.{turned}

@@ -1,5 +1,5 @@
 -- What holds of a job in one cycle holds in all: when it starts in its period, when it ends, and how old what it carries is.
-use Rattle.std.proofs.Common.{◌≡◌, ◌∙◌, ℕ, ◌+◌, ◌-◌, ◌*◌, ◌<◌, ◌≤◌, length, slice_index, All, arith, inl, inr, refl, sym, ap}
+use Rattle.std.proofs.Common.{◌≡◌, ◌∙◌, ℕ, ◌+◌, ◌-◌, ◌*◌, ◌<◌, ◌≤◌, length, slice_index, All, arith, refl, sym, ap}
 use Rattle.ttp_model.specs.declared.plan.Plan.{Plan}
 use Rattle.ttp_model.specs.Plans.{IsValid}
 use Rattle.rates_model.specs.declared.parts.Chain.{Chain}
@@ -11,12 +11,11 @@ use Rattle.rates_model.specs.Rules.{IsRates}
 use Rattle.rates_model.proofs.Periods.{cycle_common, jobs_whole}
 use Rattle.unrolled_jobs.specs.Unrolled.{unrolled}
 use Rattle.endless_schedules.specs.Carried.{Carries}
-use Rattle.endless_schedules.specs.Runs.{IsRun, Job, place_of, ticks_of}
+use Rattle.endless_schedules.specs.Runs.{Job, place_of}
 use Rattle.endless_schedules.proofs.Chains.{carries_later, far_enough, last_is, one_carried, some_jobs}
 use Rattle.endless_schedules.proofs.RunPlaces.{place_inside, released_from}
 use Rattle.job_ages.specs.Ages.{HasAge, IsAge, age_at}
-use Rattle.job_ages.specs.Extremes.{IsGreatest, IsLeast}
-use Rattle.job_ages.specs.Spreads.{HasResponse, HasStart, IsJitter, IsResponse, response_at, start_in_period}
+use Rattle.job_ages.specs.Spreads.{IsJitter, IsResponse, response_at, start_in_period}
 use Rattle.job_ages.proofs.Tops.{IsBottom, IsTop, some_seen}
 
 -- when a job starts in its period, in the first cycle

@@ -1,5 +1,5 @@
 -- With another bound on a chain's age all is as it was in the instance of one cycle, but by when jobs have to end.
-use Rattle.std.proofs.Common.{◌≡◌, ◌≢◌, ◌∙◌, ℕ, ◌+◌, ◌-◌, ◌*◌, ◌<◌, ◌≤◌, List, [], ◌∷◌, length, slice_index, slice_index_or, slice_set, arith, inl, inr, refl, sym, ap, subst}
+use Rattle.std.proofs.Common.{◌≡◌, ◌≢◌, ◌∙◌, ℕ, ◌+◌, ◌-◌, ◌*◌, ◌<◌, List, [], ◌∷◌, length, slice_index, inl, inr, refl, sym, ap, subst}
 use Rattle.std.proofs.lemmas.Bool.{cases_eq}
 use Rattle.std.proofs.lemmas.List.{get_or-set_other, get_or-set_same, length-set}
 use Rattle.ttp_model.specs.declared.parts.Process.{Process}
@@ -7,12 +7,12 @@ use Rattle.ttp_model.specs.Instance as instance
 use Rattle.ttp_model.specs.Instance.{Instance, no_process}
 use Rattle.rates_model.specs.declared.parts.Chain.{Chain}
 use Rattle.rates_model.specs.Rates.{Rates, chain_at, no_chain, message_at}
-use Rattle.rates_model.specs.Cycles.{cycle, horizon_of, jobs_of}
+use Rattle.rates_model.specs.Cycles.{cycle, horizon_of}
 use Rattle.rates_model.specs.Reads.{job_from_all, last_begun}
 use Rattle.rates_model.specs.Ages.{age_deadline, carried, cycles_back, first_of, last_of, release_from_all, wait_of}
 use Rattle.unrolled_jobs.specs.Stores.{first_store, job_index, storing_nodes}
 use Rattle.unrolled_jobs.specs.Times.{carried_release}
-use Rattle.unrolled_jobs.specs.Unrolled.{job, job_message, jobs_reading, link_to, links_of, messages_of, readers, sent_of, store, stores_reading, unrolled, unrolled_links, unrolled_messages, unrolled_processes}
+use Rattle.unrolled_jobs.specs.Unrolled.{job, job_message, jobs_reading, link_to, links_of, messages_of, readers, sent_of, store, stores_reading, unrolled, unrolled_processes}
 use Rattle.endless_schedules.specs.Runs.{IsRun, Job, Run, Store, place_of}
 use Rattle.endless_schedules.proofs.RunPlaces.{all_long, job_at, run_at, store_at}
 use Rattle.instance_variants.specs.Variants.{DifferInTimes, with_times}

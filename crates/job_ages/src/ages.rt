@@ -30,7 +30,7 @@ fn greatest_age(rates: &Rates, plan: &Plan, chain: &Chain, waits: &[u32]) -> u64
     let wcet = u64::from(rates.process_at(last).wcet);
     let starts = plan.starts.as_slice();
     let first = first_job(rates, last);
-    let mut greatest = 0;
+    let mut greatest = 0u64;
     for k in 0..rates.jobs_of(last) {
         let end = u64::from(starts[first + k as usize]) + wcet;
         let age = (back + end).saturating_sub(carried_release(rates, chain, waits, k));

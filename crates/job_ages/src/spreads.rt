@@ -30,7 +30,7 @@ pub fn spread_of(rates: &Rates, plan: &Plan, p: usize) -> Spread
     let starts = plan.starts.as_slice();
     let first = first_job(rates, p);
     let mut earliest = u64::MAX;
-    let mut latest = 0;
+    let mut latest = 0u64;
     for k in 0..rates.jobs_of(p) {
         let at = u64::from(starts[first + k as usize]);
         let start = at.saturating_sub(u64::from(rates.begin_of(p, k)));

@@ -44,9 +44,11 @@ module _ (rho : Rates) where
     -- of a chain
     pub chain_told : (x age bound : ℕ) (name old new : List ℕ) → IsAge rho plan (chain_at rho x) age → name ≡ (chain_at rho x).name → bound ≡ (chain_at rho x).age
         → new ≡ old ++ chain_line name age bound → AddsLine (IsChainLine rho plan x) old new
-    chain_told x age bound name old new is named bounded added =
-        (chain_line (chain_at rho x).name age (chain_at rho x).age, record { age = age; is = is; spelled = refl },
-        added ∙ (ap (λ (it : List ℕ). old ++ chain_line it age bound) named ∙ ap (λ (most : ℕ). old ++ chain_line (chain_at rho x).name age most) bounded))
+    chain_told x age bound name old new is named bounded added = (
+      chain_line (chain_at rho x).name age (chain_at rho x).age,
+      record { age = age; is = is; spelled = refl },
+      added ∙ (ap (λ (it : List ℕ). old ++ chain_line it age bound) named ∙ ap (λ (most : ℕ). old ++ chain_line (chain_at rho x).name age most) bounded),
+    )
 
     -- and of all
     pub plan_told : (front mid all : List ℕ) → IsCycleText rho front → AddsLines (IsProcessLine rho plan) (length rho.processes) front mid

@@ -1,4 +1,4 @@
-use Rattle.std.proofs.Common.{◌≡◌, ◌∙◌, ◌<◌, ◌-◌, ◌*◌, ℕ, List, ◌+◌, length, slice_index, arith, ap, subst}
+use Rattle.std.proofs.Common.{◌≡◌, ◌∙◌, ◌-◌, ◌*◌, ℕ, List, ◌+◌, length, slice_index, arith, ap, subst}
 use Rattle.ttp_model.specs.Totals.{total}
 use Rattle.rates_model.specs.declared.parts.RatesProcess.{RatesProcess}
 use Rattle.rates_model.specs.Rates.{process_at}

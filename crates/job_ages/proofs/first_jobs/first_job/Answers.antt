@@ -1,4 +1,4 @@
-use Rattle.std.proofs.Common.{◌≡◌, ◌+◌, arith}
+use Rattle.std.proofs.Common.{arith}
 use Rattle.ttp_model.proofs.Totals.{total_next}
 use Rattle.rates_model.specs.Cycles.{jobs_of}
 use Rattle.job_ages.proofs.first_jobs.first_job.Goals as goal

@@ -1,4 +1,4 @@
-use Rattle.std.proofs.Common.{◌≡◌, ◌∙◌, ◌<◌, ◌≤◌, ◌-◌, ◌^◌, ℕ, List, ◌+◌, length, slice_index, arith, ap, subst}
+use Rattle.std.proofs.Common.{◌≡◌, ◌∙◌, ◌<◌, ◌-◌, ◌^◌, ℕ, List, ◌+◌, length, slice_index, arith, ap, subst}
 use Rattle.rates_model.specs.declared.parts.RatesProcess.{RatesProcess}
 use Rattle.rates_model.specs.Cycles.{jobs_of}
 use Rattle.job_ages.proofs.ForEver.{first_start, jitter_of, response_of}
@@ -24,7 +24,7 @@ loop-k-preserved c =
     (c.from.ensures ∙ c.begin_of.ensures.value) c.saturating_sub-start.ensures in
     record {
       earliest =
-          bottom_more (first_start rho plan c.args.p) k c.loop-k.earliest c.saturating_sub-start.result c.min-earliest.result read (2 ^ 64 - 1) ?
+          bottom_more (first_start rho plan c.args.p) k c.loop-k.earliest c.saturating_sub-start.result c.min-earliest.result read (2 ^ 64 - 1) (omega (arith, c.saturating_sub-start.type_inv))
           c.loop-k.invariant.earliest c.min-earliest.ensures;
       latest =
           top_more (first_start rho plan c.args.p) k c.loop-k.latest c.saturating_sub-start.result c.max-latest.result read c.loop-k.invariant.latest
