@@ -196,7 +196,7 @@ def second(call, *texts):
         return fault.status, fault.line
 
 
-ASKED = ("unroll", "repeat")
+ASKED = ("unroll",)  # of `unroll` and `repeat` what the program has
 
 
 def repeated(text, plan=None):

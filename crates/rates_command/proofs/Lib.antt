@@ -1,3 +1,1 @@
 pub mod Unrollings
-pub mod Repeatings
-pub mod LinesAdded

@@ -1,5 +1,3 @@
 pub mod Endings
 pub mod Lines
 pub mod Answers
-pub mod Cycles
-pub mod Repeats
