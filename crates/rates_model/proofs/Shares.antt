@@ -1,6 +1,7 @@
 -- With the share of each slot a round is as long as is asked for.
-use Rattle.std.proofs.Common.{◌≡◌, ◌∙◌, ℕ, zero, suc, ◌+◌, ◌-◌, ◌*◌, ◌/◌, ◌%◌, ◌^◌, ◌<◌, ◌≤◌, min, max, List, [], ◌∷◌, length, sum_by, Some, arith, inl, inr, ap, sym, refl}
+use Rattle.std.proofs.Common.{◌≡◌, ◌∙◌, ℕ, zero, suc, ◌+◌, ◌-◌, ◌*◌, ◌/◌, ◌%◌, ◌^◌, ◌<◌, ◌≤◌, min, max, List, [], ◌∷◌, length, sum_by, Some, arith, inl, inr, ap, sym, refl, subst}
 use Rattle.std.proofs.lemmas.Bool.{cases_lt}
+use Rattle.std.proofs.lemmas.List.Sums.{sum_by-cons}
 use Rattle.std.proofs.Math.Nat.{div-add-mod, mul-add, add-mul, mul_assoc, mul_comm, mul-le-mul_left, one-mul, zero-mul, mul-zero, zero-mod}
 use Rattle.ttp_model.specs.Limits.{most_nodes, most_ticks}
 use Rattle.ttp_model.specs.Slots.{slot_duration}
@@ -23,6 +24,19 @@ uncut_times a zero small = mul-zero (min a (2 ^ 32 - 1)) ∙ sym (mul-zero a)
 uncut_times a (suc k) small =
     let once : min a (2 ^ 32 - 1) * 1 ≤ min a (2 ^ 32 - 1) * suc k = mul-le-mul_left (min a (2 ^ 32 - 1)) (omega arith) in
     ap (λ n. n * suc k) (uncut a (omega (arith, once, small)))
+
+-- a sum of terms each of which is so many times another and a share more, where it is small
+sum_longer : {X : Type 0} (F G : X → ℕ) (f s : ℕ) → ((x : X) → F x ≤ most_ticks → F x ≡ G x * f + s)
+    → (xs : List X) → sum_by F xs ≤ most_ticks → sum_by F xs ≡ sum_by G xs * f + length xs * s
+sum_longer F G f s each [] small = omega (arith, zero-mul f, zero-mul s)
+sum_longer F G f s each (x ∷ xs) small =
+    let all = sum_by-cons F x xs in
+    let first = each x (omega (arith, small, all)) in
+    let rest = sum_longer F G f s each xs (omega (arith, small, all)) in
+    let more : sum_by G (x ∷ xs) * f ≡ G x * f + sum_by G xs * f = ap (λ n. n * f) (sum_by-cons G x xs) ∙ add-mul (G x) (sum_by G xs) f in
+    let one_more : (1 + length xs) * s ≡ s + length xs * s = add-mul 1 (length xs) s ∙ ap (λ n. n + length xs * s) (one-mul s) in
+    let count : length (x ∷ xs) * s ≡ (1 + length xs) * s = ap (λ n. n * s) (omega arith) in
+    omega (arith, all, first, rest, more, one_more, count)
 
 module _ (c : RatesCluster) (f s : ℕ) where
   -- a slot in ticks of the text, and with its share in finer ones
@@ -54,13 +68,7 @@ module _ (c : RatesCluster) (f s : ℕ) where
           ∙ ap (λ k. k + c.trail * f) (add-mul c.lead frame f ∙ ap (λ k. c.lead * f + k) (add-mul c.head (c.per_byte * n.capacity) f))
 
   all_longer : (nodes : List RatesNode) → sum_by longer_slot nodes ≤ most_ticks → sum_by longer_slot nodes ≡ sum_by slot nodes * f + length nodes * s
-  all_longer [] small = omega (arith, zero-mul f, zero-mul s)
-  all_longer (n ∷ nodes) small =
-      let first = longer n (omega (arith, small)) in
-      let rest = all_longer nodes (omega (arith, small)) in
-      let more = add-mul (slot n) (sum_by slot nodes) f in
-      let one_more = add-mul 1 (length nodes) s in
-      omega (arith, first, rest, more, one_more, one-mul s)
+  all_longer = sum_longer longer_slot slot f s longer
 
 -- a cluster with a round that is asked for
 module _ (rho : Rates) (round : ℕ) (asked : rho.cluster.round ≡ Some round) where
@@ -109,10 +117,10 @@ module _ (rho : Rates) (round : ℕ) (asked : rho.cluster.round ≡ Some round) 
     slots_within = elim (cases_lt round (round_of rho)) [
       | inl over ↦
           let once : f ≡ 1 = nothing_left over in
-          let same : round_of fine ≤ 1 * round = rw once at within in
-          let whole : round_of fine ≡ round_of rho * 1 + 1 * rest = rw once at round_is in
+          let same = subst (λ k. round_of fine ≤ k * round) once within in
+          let whole = subst (λ k. round_of fine ≡ round_of rho * k + k * rest) once round_is in
           absurd (omega (arith, over, same, whole))
-      | inr within ↦ omega (arith, within)
+      | inr few ↦ omega (arith, few)
     ]
 
     fine_round : round_of fine ≡ f * round

@@ -1,4 +1,4 @@
-use Rattle.std.proofs.Common.{◌≡◌, ◌∙◌, ◌*◌, ◌/◌, ℕ, ap, ap₂, arith, rules, sym}
+use Rattle.std.proofs.Common.{◌≡◌, ◌∙◌, ◌*◌, ◌/◌, ℕ, ap₂, arith, map, rules}
 use Rattle.std.proofs.lemmas.List.{with_items_is, places}
 use Rattle.rates_model.specs.Cycles.{least_times}
 use Rattle.rates_model.specs.Finer.{finer_chain, finer_process, finer_ticks, rest_of, share_of, sharing_slots}
@@ -16,5 +16,8 @@ returns c =
     c.share_of-share.ensures ∙ ap₂ (λ (n d : ℕ). n / d) (ap₂ (λ (f r : ℕ). f * r) ticks rest) slots in
     let processes = with_items_is c.args.parts.now.processes c.make_processes_finer.new.processes (search (rules, places)) in
     let chains = with_items_is c.args.parts.now.chains c.make_chains_finer.new.chains (search (rules, places)) in
-    all_finer rho _ _ _ _ _ _ _ ticks share c.finer_cluster-parts.ensures
-    (processes ∙ c.make_processes_finer.ensures ∙ ap (λ ps. _) c.as_mut_slice.ensures.value) (chains ∙ c.make_chains_finer.ensures)
+    let new_processes : c.make_processes_finer.new.processes ≡ map (finer_process c.finer_ticks-finer.result) rho.processes =
+    rw c.as_mut_slice.ensures.value at c.make_processes_finer.ensures in
+    let new_chains : c.make_chains_finer.new.chains ≡ map (finer_chain c.finer_ticks-finer.result) rho.chains =
+    rw c.as_mut_slice-2.ensures.value at c.make_chains_finer.ensures in
+    all_finer rho _ _ _ _ _ _ _ ticks share c.finer_cluster-parts.ensures (processes ∙ new_processes) (chains ∙ new_chains)
