@@ -12,7 +12,7 @@ stated_ok rates = Ok rates
 
 pub returns-in_err-parts-clause-err : goal.returns-in_err-parts-clause-err
 returns-in_err-parts-clause-err c =
-    handed_on _ _ _ c.from_residual-in_err-parts.ensures.1 (λ other. stated-fault (table_view c.args.table.now) _ (c.in_err-parts.ensures.err other))
+    handed_on _ _ _ c.from_residual.ensures.1 (λ other. stated-fault (table_view c.args.table.now) _ (c.in_err-parts.ensures.err other))
 
 pub returns-clause-ok : goal.returns-clause-ok
 returns-clause-ok c =
