@@ -1,9 +1,12 @@
 -- The instance of one cycle of the worked cluster is the one that is written out, and keeps each rule of instances.
-use Rattle.std.proofs.Common.{◌≡◌, ◌≢◌, ℕ, zero, suc, ◌-◌, ◌<◌, ◌≤◌, List, [], ◌∷◌, codes, length, slice_index, All, Contains, IsTrue, arith, inl, inr, refl, ap, sym, subst, lit<, lit≤}
+use Rattle.std.proofs.Common.{◌≡◌, ◌≢◌, ◌∙◌, ◌++◌, ℕ, zero, suc, ◌-◌, ◌<◌, ◌≤◌, List, [], ◌∷◌, codes, length, slice_index, All, Contains, IsTrue, arith, inl, inr, false, refl, ap, ap₂, sym, subst, lit<, lit≤}
+use Rattle.std.specs.Fmt.{decimal}
 use Rattle.std.proofs.lemmas.Bool.{cases_lt}
+use Rattle.std.proofs.lemmas.Fmt.{decimal_digit}
 use Rattle.ttp_model.specs.declared.error.Place.{Place}
 use Rattle.ttp_model.specs.declared.error.Place.TheVariants.{AtCluster, AtNode, AtProcess, AtLink, AtMessage}
-use Rattle.ttp_model.specs.Instance.{Instance, message_at, node_at, node_of, process_at}
+use Rattle.ttp_model.specs.Instance.{Instance, instance_with, message_at, node_at, node_of, process_at}
+use Rattle.ttp_model.specs.Worked.{node_with, plain_cluster}
 use Rattle.ttp_model.specs.Graph.{IsClosedWalk, Leads}
 use Rattle.ttp_model.specs.Rules.{IsCapacityList, IsInRange, IsInstance, IsName, IsNamed, IsNewName, IsProcess, IsProcessInRange, NamesWhatIsThere}
 use Rattle.rates_model.specs.Cycles.{cycle, least_multiple, least_times}
@@ -11,12 +14,24 @@ use Rattle.unrolled_jobs.specs.Names.{numbered, stored_name}
 use Rattle.unrolled_jobs.specs.Stores.{first_store, job_index, storing_nodes, with_new}
 use Rattle.unrolled_jobs.specs.Times.{job_deadline}
 use Rattle.unrolled_jobs.specs.Unrolled.{job, job_message, jobs, jobs_reading, link_to, links_of, messages_of, readers, sent_of, store, stores, stores_reading, unrolled, unrolled_node}
-use Rattle.endless_schedules.specs.Worked.{late_jobs, late_pair}
+use Rattle.endless_schedules.specs.Worked.{late_jobs, late_pair, tick_on}
 use Rattle.endless_schedules.proofs.WorkedRules.{all_of_one, letter, none, one, other_letter, two}
 
-pub late_pair_is_unrolled : unrolled late_pair ≡ late_jobs
+-- that instance, where the jobs of q have these numbers
+abbrev numbered_jobs : List ℕ → List ℕ → Instance
+numbered_jobs zeroth first = instance_with (record plain_cluster { horizon = 8 })
+    (node_with (codes "A") 2 ∷ node_with (codes "B") 0 ∷ [])
+    (tick_on (codes "p") 0 0 8 ∷ tick_on (codes "q" ++ (codes "_" ++ zeroth)) 1 0 4 ∷ tick_on (codes "q" ++ (codes "_" ++ first)) 1 4 6
+    ∷ tick_on (codes "m_at_B") 1 0 8 ∷ [])
+    []
+    (record { name = codes "m"; sender = 0; receivers = 3 ∷ []; bytes = 2; both = false } ∷ [])
+
+is_numbered : unrolled late_pair ≡ numbered_jobs (decimal 0) (decimal 1)
 unfolding cycle least_multiple least_times numbered stored_name first_store job_index storing_nodes with_new job_deadline job job_message jobs jobs_reading link_to links_of messages_of readers sent_of store stores stores_reading unrolled_node
-late_pair_is_unrolled = refl
+is_numbered = refl
+
+pub late_pair_is_unrolled : unrolled late_pair ≡ late_jobs
+late_pair_is_unrolled = is_numbered ∙ ap₂ numbered_jobs (decimal_digit 0 (lit< tt)) (decimal_digit 1 (lit< tt))
 
 pub three : (P : ℕ → Type 0) → P 0 → P 1 → P 2 → (k : ℕ) → k < 3 → P k
 three P zeroth first second zero h = zeroth
@@ -64,7 +79,8 @@ new_process = four (λ p. (k : ℕ) → k < p → (process_at i k).name ≢ (pro
 
 new_named : (at : Place) → IsNewName i at
 new_named AtCluster = tt
-new_named (AtNode n) = two (λ n. (k : ℕ) → k < n → (node_at i k).name ≢ (node_at i n).name) (none _) (one _ (other_letter 65 66 (λ same. omega (arith, same)))) n
+new_named (AtNode n) =
+    two (λ n. (k : ℕ) → k < n → (node_at i k).name ≢ (node_at i n).name) (none _) (one _ (other_letter 65 66 (λ same. omega (arith, same)))) n
 new_named (AtProcess p) = new_process p
 new_named (AtLink l) = tt
 new_named (AtMessage m) = one (λ m. (k : ℕ) → k < m → (message_at i k).name ≢ (message_at i m).name) (none _) m
@@ -74,7 +90,8 @@ there AtCluster = tt
 there (AtNode n) = tt
 there (AtProcess p) = four (λ p. node_of i p < 2) (lit< tt) (lit< tt) (lit< tt) (lit< tt) p
 there (AtLink l) = λ h. absurd (omega (arith, h))
-there (AtMessage m) = one (λ m. IsProcess i (message_at i m).sender × All (IsProcess i) (message_at i m).receivers) (lit< tt, all_of_one (IsProcess i) 3 (lit< tt)) m
+there (AtMessage m) =
+    one (λ m. IsProcess i (message_at i m).sender × All (IsProcess i) (message_at i m).receivers) (lit< tt, all_of_one (IsProcess i) 3 (lit< tt)) m
 
 process_in_range : (p : ℕ) → p < 4 → IsProcessInRange (process_at i p)
 process_in_range = four (λ p. IsProcessInRange (process_at i p))
@@ -83,6 +100,7 @@ process_in_range = four (λ p. IsProcessInRange (process_at i p))
     (record { wcet_least = lit≤ tt; wcet = lit≤ tt; release = lit≤ tt; deadline_least = lit≤ tt; deadline = lit≤ tt })
     (record { wcet_least = lit≤ tt; wcet = lit≤ tt; release = lit≤ tt; deadline_least = lit≤ tt; deadline = lit≤ tt })
 
+-- each number is in its range
 in_range : (at : Place) → IsInRange i at
 in_range AtCluster = record {
   precision = lit≤ tt;
@@ -105,7 +123,12 @@ in_range (AtLink l) = tt
 in_range (AtMessage m) = one (λ m. (1 ≤ (message_at i m).bytes) × ((message_at i m).bytes ≤ 1000)) (lit≤ tt, lit≤ tt) m
 
 one_capacity : (n : ℕ) → n ≤ 1000 → IsCapacityList (n ∷ [])
-one_capacity n small = record { some = lit≤ tt; few = lit≤ tt; rising = λ k below. absurd (omega (arith, below)); small = all_of_one (λ size. size ≤ 1000) n small }
+one_capacity n small = record {
+  some = lit≤ tt;
+  few = lit≤ tt;
+  rising = λ k below. absurd (omega (arith, below));
+  small = all_of_one (λ size. size ≤ 1000) n small;
+}
 
 -- its message leads from p to the store, and nothing else leads anywhere
 leads_on : (p q m : ℕ) → m < 1 → (message_at i m).sender ≡ p → Contains (message_at i m).receivers q → (p ≡ 0) × (1 ≤ q)
@@ -131,6 +154,7 @@ no_walk ps walk =
           )
     ]
 
+-- so all rules are kept
 pub late_jobs_is_instance : IsInstance late_jobs
 late_jobs_is_instance = record {
   limits = record { nodes_least = lit≤ tt; nodes = lit≤ tt; processes_least = lit≤ tt; processes = lit≤ tt; links = lit≤ tt; messages = lit≤ tt };

@@ -50,8 +50,11 @@ named (AtChain c) = one (λ c. IsName (chain_at rho c).name) (letter 99 refl ref
 
 new_named : (at : RatesPlace) → HasNewName rho at
 new_named AtCluster = tt
-new_named (AtNode n) = two (λ n. (k : ℕ) → k < n → (node_at rho k).name ≢ (node_at rho n).name) (none _) (one _ (other_letter 65 66 (λ same. omega (arith, same)))) n
-new_named (AtProcess p) = two (λ p. (k : ℕ) → k < p → (process_at rho k).name ≢ (process_at rho p).name) (none _) (one _ (other_letter 112 113 (λ same. omega (arith, same)))) p
+new_named (AtNode n) =
+    two (λ n. (k : ℕ) → k < n → (node_at rho k).name ≢ (node_at rho n).name) (none _) (one _ (other_letter 65 66 (λ same. omega (arith, same)))) n
+new_named (AtProcess p) =
+    two (λ p. (k : ℕ) → k < p → (process_at rho k).name ≢ (process_at rho p).name) (none _)
+    (one _ (other_letter 112 113 (λ same. omega (arith, same)))) p
 new_named (AtLink l) = tt
 new_named (AtMessage m) = one (λ m. (k : ℕ) → k < m → (message_at rho k).name ≢ (message_at rho m).name) (none _) m
 new_named (AtChain c) = one (λ c. (k : ℕ) → k < c → (chain_at rho k).name ≢ (chain_at rho c).name) (none _) c
@@ -61,7 +64,9 @@ there AtCluster = tt
 there (AtNode n) = tt
 there (AtProcess p) = two (λ p. node_of rho p < 2) (lit< tt) (lit< tt) p
 there (AtLink l) = λ h. absurd (omega (arith, h))
-there (AtMessage m) = one (λ m. IsRatesProcess rho (message_at rho m).sender × All (IsRatesProcess rho) (message_at rho m).receivers) (lit< tt, all_of_one (IsRatesProcess rho) 1 (lit< tt)) m
+there (AtMessage m) =
+    one (λ m. IsRatesProcess rho (message_at rho m).sender × All (IsRatesProcess rho) (message_at rho m).receivers)
+    (lit< tt, all_of_one (IsRatesProcess rho) 1 (lit< tt)) m
 there (AtChain c) = one (λ c. All (IsRatesProcess rho) (chain_at rho c).through) (all_of_two (IsRatesProcess rho) 0 1 (lit< tt) (lit< tt)) c
 
 in_range : (at : RatesPlace) → HasRanges rho at
@@ -80,9 +85,18 @@ reads (suc (suc k)) least below = absurd (omega (arith, below))
 room : (p : ℕ) → p < 2 → HasRoom rho p
 room = two (HasRoom rho) (record { ends = lit≤ tt; within = lit≤ tt }) (record { ends = lit≤ tt; within = lit≤ tt })
 
+-- so all rules are kept
 pub late_pair_is_rates : IsRates late_pair
 late_pair_is_rates = record {
-  limits = record { nodes_least = lit≤ tt; nodes = lit≤ tt; processes_least = lit≤ tt; processes = lit≤ tt; links = lit≤ tt; messages = lit≤ tt; chains = lit≤ tt };
+  limits = record {
+    nodes_least = lit≤ tt;
+    nodes = lit≤ tt;
+    processes_least = lit≤ tt;
+    processes = lit≤ tt;
+    links = lit≤ tt;
+    messages = lit≤ tt;
+    chains = lit≤ tt;
+  };
   receivers = one _ (lit< tt);
   throughs = one (IsOfFewProcesses rho) (record { least = lit≤ tt; most = lit≤ tt });
   names = named;
