@@ -39,6 +39,8 @@ def made_cluster(dice):
         cluster["channels"] = dice.choice([1, 2, 2, 2, 2, 2, 3])
     if dice.random() < 0.3:
         cluster["store"] = dice.choice([1, 1, 2, 2, 0])
+    if dice.random() < 0.25:
+        cluster["round"] = dice.choice([*range(3, 14), *range(3, 14), 0, 1000001])
     return cluster
 
 

@@ -1785,17 +1785,35 @@ class Rates:
         keys = "name", "from", "to", "bytes", "both", "delay"
         self.messages = [self.read_message(table, names) for table in self.tables(lists, "message", *keys)]
         self.chains = [self.read_chain(table, names) for table in self.tables(lists, "chain", "name", "through", "age")]
+        self.slots, self.finer = self.round, 1
+        if self.asked is not None and self.nodes and self.asked >= self.slots:
+            self.share_rest(self.asked - self.slots)
         for code, place in self.faults():
             raise Refused(3, "rates", code, *place)
+
+    def share_rest(self, rest):
+        """Tells all times in ticks so fine that each slot has a whole share of what is left of the round that is asked for."""
+        self.finer = len(self.nodes) // math.gcd(len(self.nodes), rest)
+        for key in self.cluster:
+            self.cluster[key] *= 1 if key == "channels" else self.finer
+        self.cluster["trail"] += rest * self.finer // len(self.nodes)
+        self.store *= self.finer
+        for process in self.processes:
+            process.wcet, process.period = process.wcet * self.finer, process.period * self.finer
+            process.release, process.deadline = process.release * self.finer, process.deadline * self.finer
+        for chain in self.chains:
+            chain.age *= self.finer
+        del self.round
 
     def tables(self, lists, word, *keys):
         return (Table(members, f"{word} {k}", keys, "rates") for k, members in enumerate(lists[word]))
 
     def read_cluster(self, members):
         needed = [key for key in CLUSTER_KEYS if key != "horizon"]
-        table = Table(members, "cluster", (*needed, "channels", "store"), "rates")
+        table = Table(members, "cluster", (*needed, "channels", "store", "round"), "rates")
         self.cluster = {key: table.number(key) for key in needed} | {"channels": table.number("channels", 1)}
         self.store = table.number("store", 1)
+        self.asked = table.number("round") if "round" in members else None
 
     def read_node(self, table):
         return Node(table.value("name", str), [table.number("capacity")])
@@ -1831,7 +1849,8 @@ class Rates:
             for at, (p, q) in enumerate(itertools.pairwise(chain.through)):
                 if not self.delays(p, q):
                     yield "J7", ("chain", k, at + 1)
-        # J8 is of a round that a text asks for, as none does.
+        if self.asked is not None and self.asked < self.slots:
+            yield "J8", (self.slots, self.asked)
         if self.cycle > TICKS_MOST:
             yield "J9", ()
         if self.round > self.cycle:
@@ -1852,7 +1871,7 @@ class Rates:
 
     def faults_of_times(self):
         """J5 and J6."""
-        if not 1 <= self.store <= TICKS_MOST:
+        if not 1 <= self.store <= TICKS_MOST or self.asked is not None and not 1 <= self.asked <= TICKS_MOST:
             yield "J5", ("cluster",)
         for word, things, right in (
                 ("process", self.processes, lambda process: 1 <= process.period <= TICKS_MOST),

@@ -15,3 +15,6 @@ mod Shared
 mod Sound
 mod Complete
 mod Behind
+mod WorkedRules
+mod WorkedJobs
+mod WorkedPlan

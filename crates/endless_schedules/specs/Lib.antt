@@ -3,3 +3,4 @@ pub mod Sent
 pub mod Carried
 pub mod Endless
 pub mod Clocks
+pub mod Worked

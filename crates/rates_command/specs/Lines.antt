@@ -65,6 +65,7 @@ rates_model_line (rates.NoSuchIndex at) = codes "rates J4 " ++ rates_place_words
 rates_model_line (rates.OutOfRange at) = codes "rates J5 " ++ rates_place_words at
 rates_model_line (rates.NoRoom p) = codes "rates J6 process " ++ decimal p
 rates_model_line (rates.NothingRead c k) = (codes "rates J7 chain " ++ decimal c) ++ (codes " " ++ decimal k)
+rates_model_line (rates.ShortRound slots round) = (codes "rates J8 " ++ decimal slots) ++ (codes " " ++ decimal round)
 rates_model_line rates.LongCycle = codes "rates J9"
 rates_model_line (rates.LongRound round cycle) = (codes "rates J10 " ++ decimal round) ++ (codes " " ++ decimal cycle)
 

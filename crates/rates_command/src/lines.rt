@@ -84,6 +84,7 @@ impl fmt::Display for RatesModelLine {
             RatesError::OutOfRange(at) => write!(f, "rates J5 {}", RatesPlaceWords(at)),
             RatesError::NoRoom(p) => write!(f, "rates J6 process {p}"),
             RatesError::NothingRead(c, place) => write!(f, "rates J7 chain {c} {place}"),
+            RatesError::ShortRound(slots, round) => write!(f, "rates J8 {slots} {round}"),
             RatesError::LongCycle => write!(f, "rates J9"),
             RatesError::LongRound(round, cycle) => write!(f, "rates J10 {round} {cycle}"),
         }

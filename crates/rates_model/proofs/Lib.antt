@@ -4,3 +4,5 @@ pub mod RuleOrder
 pub mod Periods
 pub mod Elements
 pub mod Rooms
+pub mod Shares
+pub mod FinerParts

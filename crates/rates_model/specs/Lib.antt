@@ -7,3 +7,4 @@ pub mod Rules
 pub mod Refusals
 pub mod Searches
 pub mod Parts
+pub mod Finer

@@ -1,5 +1,5 @@
 -- Which rule a refusal names: the first that is broken, at the first place at which it is broken.
-use Rattle.std.specs.Prelude.{◌≡◌, ℕ, ◌<◌, ◌≤◌, ◌⊎◌, length}
+use Rattle.std.specs.Prelude.{◌≡◌, ℕ, ◌*◌, ◌<◌, ◌≤◌, ◌⊎◌, Some, length}
 use Rattle.ttp_model.specs.Limits.{most_nodes, most_processes, most_links, most_messages}
 use Rattle.ttp_model.specs.Lists.{EachBelow, IsFirstFailure}
 use Rattle.ttp_model.specs.Refusals.{HasLength}
@@ -8,11 +8,11 @@ use Rattle.rates_model.specs.declared.error.RatesPart.TheVariants as part
 use Rattle.rates_model.specs.declared.error.RatesPlace.{RatesPlace}
 use Rattle.rates_model.specs.declared.error.RatesPlace.TheVariants.{AtCluster, AtNode, AtProcess, AtLink, AtMessage, AtChain}
 use Rattle.rates_model.specs.declared.error.RatesError.{RatesError}
-use Rattle.rates_model.specs.declared.error.RatesError.TheVariants.{Length, NoReceiver, Through, NameForm, NameRepeated, NoSuchIndex, OutOfRange, NoRoom, NothingRead, LongCycle, LongRound}
+use Rattle.rates_model.specs.declared.error.RatesError.TheVariants.{Length, NoReceiver, Through, NameForm, NameRepeated, NoSuchIndex, OutOfRange, NoRoom, NothingRead, ShortRound, LongCycle, LongRound}
 use Rattle.rates_model.specs.Limits.{most_chains}
 use Rattle.rates_model.specs.Rates.{Rates, chain_at}
 use Rattle.rates_model.specs.Cycles.{cycle, round_of}
-use Rattle.rates_model.specs.Rules.{RatesRule, Lengths, Receivers, Throughs, Names, NewNames, Indices, Ranges, Rooms, Chains, Cycles, Rounds, KeepsRatesRule, HasSomeReceiver, IsOfFewProcesses, HasName, HasNewName, HasIndices, HasRanges, HasRoom, ReadsAt, IsChain}
+use Rattle.rates_model.specs.Rules.{RatesRule, Lengths, Receivers, Throughs, Names, NewNames, Indices, Ranges, Rooms, Chains, Slots, Cycles, Rounds, KeepsRatesRule, HasSomeReceiver, IsOfFewProcesses, HasName, HasNewName, HasIndices, HasRanges, HasRoom, ReadsAt, IsChain}
 
 -- the order in which the rules are judged
 abbrev pub rates_rule_number : RatesRule → ℕ
@@ -25,8 +25,9 @@ rates_rule_number Indices = 6
 rates_rule_number Ranges = 7
 rates_rule_number Rooms = 8
 rates_rule_number Chains = 9
-rates_rule_number Cycles = 10
-rates_rule_number Rounds = 11
+rates_rule_number Slots = 10
+rates_rule_number Cycles = 11
+rates_rule_number Rounds = 12
 
 -- every rule of a lesser number is kept
 pub record KeepsRatesRulesBefore (rho : Rates) (rule : RatesRule) : Type 0 where
@@ -82,6 +83,12 @@ pub record IsFirstUnread (rho : Rates) (c place : ℕ) : Type 0 where
 abbrev pub BreaksRatesRule : Rates → RatesRule → Type 0 → Type 0
 BreaksRatesRule rho rule Failure = KeepsRatesRulesBefore rho rule × Failure
 
+-- The slots take longer than the round that is asked for, and these are both. Nothing is left of it then, and its ticks are those of the text.
+pub record IsShortRound (rho : Rates) (slots round : ℕ) : Type 0 where
+  pub asked : rho.cluster.round ≡ Some round
+  pub slots_are : slots ≡ round_of rho
+  pub longer : rho.cluster.finer * round < slots
+
 -- the round is longer than the cycle, and these are both
 pub record IsLongRound (rho : Rates) (round cycle_ticks : ℕ) : Type 0 where
   pub round_is : round ≡ round_of rho
@@ -99,5 +106,6 @@ IsRatesRefusal rho (NoSuchIndex at) = BreaksRatesRule rho Indices (FailsFirstAt 
 IsRatesRefusal rho (OutOfRange at) = BreaksRatesRule rho Ranges (FailsFirstAt (HasRanges rho) at)
 IsRatesRefusal rho (NoRoom p) = BreaksRatesRule rho Rooms (IsFirstFailure (length rho.processes) (HasRoom rho) p)
 IsRatesRefusal rho (NothingRead c place) = BreaksRatesRule rho Chains (IsFirstUnread rho c place)
+IsRatesRefusal rho (ShortRound slots round) = BreaksRatesRule rho Slots (IsShortRound rho slots round)
 IsRatesRefusal rho LongCycle = BreaksRatesRule rho Cycles (¬ KeepsRatesRule rho Cycles)
 IsRatesRefusal rho (LongRound round cycle_ticks) = BreaksRatesRule rho Rounds (IsLongRound rho round cycle_ticks)

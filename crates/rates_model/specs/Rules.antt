@@ -1,6 +1,6 @@
 -- What each part of a cluster of several rates has to keep by itself. The rules of an instance are judged of the one that is
 -- made of it.
-use Rattle.std.specs.Prelude.{◌≢◌, ℕ, ◌+◌, ◌-◌, ◌<◌, ◌≤◌, length, slice_index, ◌||◌, IsTrue, All}
+use Rattle.std.specs.Prelude.{◌≢◌, ℕ, ◌+◌, ◌-◌, ◌*◌, ◌<◌, ◌≤◌, length, slice_index, ◌||◌, IsTrue, IfSome, All}
 use Rattle.ttp_model.specs.Limits.{most_nodes, most_processes, most_links, most_messages, most_ticks}
 use Rattle.ttp_model.specs.Lists.{EachBelow}
 use Rattle.ttp_model.specs.Rules.{IsName}
@@ -65,9 +65,9 @@ HasIndices rho (AtChain c) = c < length rho.chains → All (IsRatesProcess rho) 
 abbrev pub AreTicks : ℕ → Type 0
 AreTicks ticks = (1 ≤ ticks) × (ticks ≤ most_ticks)
 
--- The numbers that an instance has none of are in their ranges: what storing takes, a period, a delay, an age.
+-- The numbers that an instance has none of are in their ranges: what storing takes, the round that is asked for, a period, a delay, an age.
 abbrev pub HasRanges : Rates → RatesPlace → Type 0
-HasRanges rho AtCluster = AreTicks rho.cluster.store
+HasRanges rho AtCluster = AreTicks rho.cluster.store × IfSome rho.cluster.round AreTicks
 HasRanges rho (AtNode n) = Unit {0}
 HasRanges rho (AtProcess p) = p < length rho.processes → AreTicks (process_at rho p).period
 HasRanges rho (AtLink l) = l < length rho.links → (link_at rho l).delay ≤ most_delay
@@ -91,8 +91,12 @@ ReadsAt rho c k = ReadsOf rho (slice_index (chain_at rho c).through (k - 1)) (sl
 abbrev pub IsChain : Rates → ℕ → Type 0
 IsChain rho c = (k : ℕ) → 1 ≤ k → k < length (chain_at rho c).through → ReadsAt rho c k
 
+-- the slots take no more than the round that is asked for
+abbrev pub HasSlotsWithin : Rates → Type 0
+HasSlotsWithin rho = IfSome rho.cluster.round (λ round. round_of rho ≤ rho.cluster.finer * round)
+
 -- the rules, in their order: how many parts there are, that messages have receivers, how long chains are, names, new names, indices, ranges, room in a
--- period, what chains read, the cycle, and whether a round is within it
+-- period, what chains read, whether the slots are within the round that is asked for, the cycle, and whether a round is within that
 pub data RatesRule : Type 0 where
   Lengths : RatesRule
   Receivers : RatesRule
@@ -103,6 +107,7 @@ pub data RatesRule : Type 0 where
   Ranges : RatesRule
   Rooms : RatesRule
   Chains : RatesRule
+  Slots : RatesRule
   Cycles : RatesRule
   Rounds : RatesRule
 
@@ -117,6 +122,7 @@ KeepsRatesRule rho Indices = (at : RatesPlace) → HasIndices rho at
 KeepsRatesRule rho Ranges = (at : RatesPlace) → HasRanges rho at
 KeepsRatesRule rho Rooms = EachBelow (length rho.processes) (HasRoom rho)
 KeepsRatesRule rho Chains = EachBelow (length rho.chains) (IsChain rho)
+KeepsRatesRule rho Slots = HasSlotsWithin rho
 KeepsRatesRule rho Cycles = cycle rho ≤ most_ticks
 KeepsRatesRule rho Rounds = round_of rho ≤ cycle rho
 
@@ -131,5 +137,6 @@ pub record IsRates (rho : Rates) : Type 0 where
   pub ranges : KeepsRatesRule rho Ranges
   pub rooms : KeepsRatesRule rho Rooms
   pub chains : KeepsRatesRule rho Chains
+  pub slots : KeepsRatesRule rho Slots
   pub cycles : KeepsRatesRule rho Cycles
   pub rounds : KeepsRatesRule rho Rounds

@@ -43,7 +43,7 @@ pub fn cycle_of(processes: &[RatesProcess]) -> Option<u32>
 }
 
 /// How long a slot is, whatever its numbers.
-fn slot_of(c: &RatesCluster, capacity: u32) -> u128
+pub fn slot_of(c: &RatesCluster, capacity: u32) -> u128
     ensures value { result ≡ slot_duration (bus_for c.now 0) capacity }
     ensures bound { result < 2 ^ 66 }
 {

@@ -45,7 +45,7 @@ pub enum RatesError {
     /// When a node or a process that is named by its index is not there.
     #[error("{0:?} names an index that is not there")]
     NoSuchIndex(RatesPlace),
-    /// When a period, an age, a delay or what storing takes is outside its range.
+    /// When a period, an age, a delay, what storing takes or the round that is asked for is outside its range.
     #[error("{0:?} has a number outside its range")]
     OutOfRange(RatesPlace),
     /// When a process that starts at its release misses its deadline, or its deadline is behind its period.
@@ -54,6 +54,9 @@ pub enum RatesError {
     /// When the process at this place of a chain, by its index from 0, reads nothing of the one before it.
     #[error("the process at place {1} of chain {0} reads nothing of the one before it")]
     NothingRead(u32, u32),
+    /// When the slots take longer than the round that is asked for, with the ticks of both.
+    #[error("the slots take {0} ticks, and a round is to have {1}")]
+    ShortRound(u128, u32),
     /// When the least common multiple of all periods is above 1,000,000 ticks.
     #[error("the periods begin together too seldom")]
     LongCycle,

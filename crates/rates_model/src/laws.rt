@@ -2,15 +2,15 @@
 
 ghost use Rattle.std.specs.Prelude.{◌≡◌, ◌+◌, ◌*◌, ◌<◌, ℕ};
 ghost use Rattle.rates_model.specs.Rates.{period_of};
-ghost use Rattle.rates_model.specs.Cycles.{cycle, jobs_of, periods_of, IsCommonMultiple};
+ghost use Rattle.rates_model.specs.Cycles.{cycle, jobs_of, periods_of, IsLeastCommonMultiple};
 ghost use Rattle.rates_model.specs.Reads.{job_from_all, last_begun};
 ghost use Rattle.rates_model.specs.Rules.{IsRatesProcess};
 
 use crate::rates::Rates;
 
-/// A cycle is some whole number of each period.
+/// A cycle is some whole number of each period, and no lesser number of ticks is.
 pub fn cycle_is_whole_periods(rates: &Rates)
-    ensures common { IsCommonMultiple (periods_of rates.now) (cycle rates.now) }
+    ensures least { IsLeastCommonMultiple (periods_of rates.now) (cycle rates.now) }
     ensures jobs { (p : ℕ) → IsRatesProcess rates.now p → jobs_of rates.now p * period_of rates.now p ≡ cycle rates.now }
 {
     let _processes = rates.processes();

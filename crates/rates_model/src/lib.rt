@@ -3,6 +3,7 @@
 
 mod cycles;
 mod error;
+mod finer;
 mod laws;
 mod leading;
 mod limits;
@@ -12,6 +13,7 @@ mod reading;
 mod rules;
 
 pub use error::{RatesError, RatesPart, RatesPlace};
+pub use finer::{make_finer, rounds_are_as_asked};
 pub use laws::{cycle_is_whole_periods, reads_are_of_all_cycles};
 pub use limits::{LEAST_THROUGH, MOST_CHAINS, MOST_DELAY, MOST_THROUGH};
 pub use parts::{

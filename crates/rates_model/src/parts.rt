@@ -23,6 +23,10 @@ pub struct RatesCluster {
     pub channels: u32,
     /// How long a node takes to store a message for the next cycle, 1 to 1,000,000.
     pub store: u32,
+    /// How long a round is to be, where that is asked for: 1 to 1,000,000 ticks of the text.
+    pub round: Option<u32>,
+    /// How many of all other ticks make one of the text: 1, unless the share of each slot wants them finer.
+    pub finer: u32,
 }
 
 /// A node of the cluster.

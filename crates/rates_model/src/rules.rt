@@ -1,9 +1,9 @@
 //! Whether tables keep the rules of a cluster of several rates, in the order in which refusals are told.
 
-ghost use Rattle.std.specs.Prelude.{◌≡◌, IfOk, MatchResult};
+ghost use Rattle.std.specs.Prelude.{◌≡◌, ◌*◌, IfOk, MatchResult};
 ghost use Rattle.rates_model.specs.Cycles.{cycle, round_of};
 ghost use Rattle.rates_model.specs.Parts.{rates_of};
-ghost use Rattle.rates_model.specs.Rules.{Indices, Rooms, Cycles, IsRates};
+ghost use Rattle.rates_model.specs.Rules.{Indices, Rooms, Slots, Cycles, IsRates};
 ghost use Rattle.rates_model.specs.Refusals.{KeepsRatesRulesBefore, IsRatesRefusal};
 ghost use Rattle.rates_model.specs.Parts.{AreTicksOf};
 
@@ -15,7 +15,7 @@ mod ranges;
 
 use crate::cycles::{cycle_of, round_of};
 use crate::error::RatesError;
-use crate::parts::RatesParts;
+use crate::parts::{RatesCluster, RatesParts};
 use ttp_model::MOST_TICKS;
 
 /// How many ticks a cycle and a round are.
@@ -34,6 +34,7 @@ pub fn judge(parts: &RatesParts) -> Result<RatesTicks, RatesError>
     judge_lists(parts)?;
     judge_numbers(parts)?;
     judge_processes(parts)?;
+    judge_slots(parts)?;
     judge_spans(parts)
 }
 
@@ -81,7 +82,7 @@ fn judge_numbers(parts: &RatesParts) -> Result<(), RatesError>
 fn judge_processes(parts: &RatesParts) -> Result<(), RatesError>
     requires { KeepsRatesRulesBefore (rates_of parts.now) Rooms }
     ensures { MatchResult result
-        (λ _. KeepsRatesRulesBefore (rates_of parts.now) Cycles)
+        (λ _. KeepsRatesRulesBefore (rates_of parts.now) Slots)
         (λ e. IsRatesRefusal (rates_of parts.now) e) }
 {
     if let Some(p) = ranges::without_room(parts) {
@@ -89,6 +90,30 @@ fn judge_processes(parts: &RatesParts) -> Result<(), RatesError>
     }
     if let Some((c, place)) = chains::unread(parts) {
         return Err(RatesError::NothingRead(c, place));
+    }
+    Ok(())
+}
+
+/// So many ticks of the text in those of the cluster.
+fn in_its_ticks(c: &RatesCluster, ticks: u32) -> u128
+    ensures { result ≡ c.now.finer * ticks }
+{
+    u128::from(c.finer) * u128::from(ticks)
+}
+
+/// The rule on the round that is asked for.
+fn judge_slots(parts: &RatesParts) -> Result<(), RatesError>
+    requires { KeepsRatesRulesBefore (rates_of parts.now) Slots }
+    ensures { MatchResult result
+        (λ _. KeepsRatesRulesBefore (rates_of parts.now) Cycles)
+        (λ e. IsRatesRefusal (rates_of parts.now) e) }
+{
+    let Some(round) = parts.cluster.round else {
+        return Ok(());
+    };
+    let slots = round_of(&parts.cluster, &parts.nodes);
+    if slots > in_its_ticks(&parts.cluster, round) {
+        return Err(RatesError::ShortRound(slots, round));
     }
     Ok(())
 }

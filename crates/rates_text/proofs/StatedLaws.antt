@@ -7,13 +7,23 @@ use Rattle.rates_model.specs.declared.parts.RatesProcess.{RatesProcess}
 use Rattle.rates_model.specs.declared.parts.RatesLink.{RatesLink}
 use Rattle.rates_model.specs.declared.parts.RatesMessage.{RatesMessage}
 use Rattle.rates_model.specs.declared.parts.Chain.{Chain}
+use Rattle.rates_model.specs.Rates.{Rates}
+use Rattle.rates_model.specs.Finer.{finer}
 use Rattle.rates_text.specs.declared.error.RatesTextError.{RatesTextError}
 use Rattle.rates_text.specs.Kinds.{Index, index_in}
-use Rattle.rates_text.specs.Stated.{Tables, stated_tables, cluster_of, nodes_of, processes_of, links_of, messages_of, chains_of, node_names, process_names, the_rates, stated_reads, stated_in, stated}
+use Rattle.rates_text.specs.Stated.{Tables, stated_tables, cluster_of, nodes_of, processes_of, links_of, messages_of, chains_of, node_names, process_names, the_rates, stated_reads, stated_in, stated_in_its_ticks, stated}
 
 -- where the tables are read, the rest is what they state
-pub stated-tables : (table : Members) (ts : Tables) → stated_tables table ≡ Ok ts → stated table ≡ stated_in ts
+pub stated-tables : (table : Members) (ts : Tables) → stated_tables table ≡ Ok ts → stated_in_its_ticks table ≡ stated_in ts
 stated-tables table ts reads_tables = rw reads_tables refl
+
+-- in finer ticks
+module _ (table : Members) where
+  pub stated-finer : (rho : Rates) → stated_in_its_ticks table ≡ Ok rho → stated table ≡ Ok (finer rho)
+  stated-finer rho reads = rw reads refl
+
+  pub stated-fault : (e : RatesTextError) → stated_in_its_ticks table ≡ Err e → stated table ≡ Err e
+  stated-fault e fault = rw fault refl
 
 -- the parts before links
 module _ (ts : Tables) (cluster : RatesCluster) (nodes : List RatesNode)

@@ -15,7 +15,7 @@ use Rattle.rates_model.specs.declared.parts.RatesProcess.{RatesProcess}
 use Rattle.rates_model.specs.declared.parts.RatesLink.{RatesLink}
 use Rattle.rates_model.specs.declared.parts.RatesMessage.{RatesMessage}
 use Rattle.rates_model.specs.declared.parts.Chain.{Chain}
-use Rattle.rates_text.specs.Stated.{Tables, stated_tables, cluster_of, stated_node, nodes_of, process_of, processes_of, link_of, links_of, message_of, messages_of, chain_of, chains_of, the_tables, the_cluster, the_node, the_process, the_link, the_message, the_chain, none_known, knows_nodes, knows_processes, node_names, process_names, stated}
+use Rattle.rates_text.specs.Stated.{Tables, stated_tables, cluster_of, stated_node, nodes_of, process_of, processes_of, link_of, links_of, message_of, messages_of, chain_of, chains_of, the_tables, the_cluster, the_node, the_process, the_link, the_message, the_chain, none_known, knows_nodes, knows_processes, node_names, process_names, stated_in_its_ticks, stated}
 
 -- a fault of a table
 abbrev pub IsTableFault : RatesTextError → Type 0
@@ -146,8 +146,8 @@ module _ (ts : Tables) (index : Index) where
       (λ c t. HasTableFault-table_at Chain (at.Chain c) (knows_processes index) the_chain t) 0 ts.chains
 
 -- of a whole text
-pub HasTableFault-stated : (ms : Members) → HasTableFault (stated ms)
-HasTableFault-stated ms =
+HasTableFault-stated_in_its_ticks : (ms : Members) → HasTableFault (stated_in_its_ticks ms)
+HasTableFault-stated_in_its_ticks ms =
     HasTableFault-then (stated_tables ms) _ (HasTableFault-table_at Tables at.Top none_known the_tables ms) (λ ts.
     HasTableFault-then (cluster_of ts.cluster) _
     (HasTableFault-table_at RatesCluster at.Cluster none_known the_cluster ts.cluster) (λ cluster.
@@ -159,3 +159,6 @@ HasTableFault-stated ms =
     HasTableFault-then (messages_of at_processes ts.messages) _ (HasTableFault-messages_of ts at_processes) (λ messages.
     HasTableFault-then (chains_of at_processes ts.chains) _ (HasTableFault-chains_of ts at_processes)
     (λ chains. tt)))))))
+
+pub HasTableFault-stated : (ms : Members) → HasTableFault (stated ms)
+HasTableFault-stated ms = HasTableFault-then (stated_in_its_ticks ms) _ (HasTableFault-stated_in_its_ticks ms) (λ rho. tt)

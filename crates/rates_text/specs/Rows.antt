@@ -54,7 +54,8 @@ rows Top =
 rows Cluster =
     needed key.Precision number ∷ needed key.Lead number ∷ needed key.Trail number
     ∷ needed key.Head number ∷ needed key.PerByte number ∷ needed key.CopyOut number
-    ∷ needed key.CopyIn number ∷ optional key.Channels number 1 ∷ optional key.Store number 1 ∷ []
+    ∷ needed key.CopyIn number ∷ optional key.Channels number 1 ∷ optional key.Store number 1
+    ∷ optional key.Round number_or_none None ∷ []
 rows (Node n) = needed key.Name text ∷ needed key.Capacity number ∷ []
 rows (Process p) =
     needed key.Name text ∷ needed key.Node node ∷ needed key.Wcet number ∷ needed key.Period number

@@ -8,6 +8,7 @@ use Rattle.rates_model.specs.declared.parts.RatesLink.{RatesLink}
 use Rattle.rates_model.specs.declared.parts.RatesMessage.{RatesMessage}
 use Rattle.rates_model.specs.declared.parts.Chain.{Chain}
 use Rattle.rates_model.specs.Rates.{Rates}
+use Rattle.rates_model.specs.Finer.{finer}
 use Rattle.rates_text.specs.declared.error.RatesTable.TheVariants as at
 use Rattle.rates_text.specs.Kinds.{Stated, ◌>>=◌, each, Index, KnownNames, index_in}
 use Rattle.rates_text.specs.Tables.{table_at}
@@ -32,9 +33,9 @@ the_tables cluster nodes processes links messages chains = record {
   chains = chains;
 }
 
--- the numbers of a cluster
-abbrev pub the_cluster : ℕ → ℕ → ℕ → ℕ → ℕ → ℕ → ℕ → ℕ → ℕ → RatesCluster
-the_cluster precision lead trail head per_byte copy_out copy_in channels store = record {
+-- the numbers of a cluster, in ticks of the text
+abbrev pub the_cluster : ℕ → ℕ → ℕ → ℕ → ℕ → ℕ → ℕ → ℕ → ℕ → Option ℕ → RatesCluster
+the_cluster precision lead trail head per_byte copy_out copy_in channels store round = record {
   precision = precision;
   lead = lead;
   trail = trail;
@@ -44,6 +45,8 @@ the_cluster precision lead trail head per_byte copy_out copy_in channels store =
   copy_in = copy_in;
   channels = channels;
   store = store;
+  round = round;
+  finer = 1;
 }
 
 -- a node
@@ -175,6 +178,10 @@ stated_in tables =
     processes_of (index_in (node_names nodes)) tables.processes >>= (λ processes.
     stated_reads (index_in (process_names processes)) tables cluster nodes processes)))
 
--- the whole cluster: the top table first
+-- the whole cluster, in ticks of the text: the top table first
+abbrev pub stated_in_its_ticks : Members → Stated Rates
+stated_in_its_ticks ms = stated_tables ms >>= (λ tables. stated_in tables)
+
+-- and in ticks so fine that its round is as long as it asks for
 abbrev pub stated : Members → Stated Rates
-stated ms = stated_tables ms >>= (λ tables. stated_in tables)
+stated ms = stated_in_its_ticks ms >>= (λ rho. Ok (finer rho))

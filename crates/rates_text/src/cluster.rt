@@ -9,7 +9,7 @@ use crate::{fields, keys};
 use rates_model::RatesCluster;
 use toml::Table;
 
-/// The numbers of the cluster.
+/// The numbers of the cluster, in ticks of the text.
 pub fn cluster(table: &Table) -> Result<RatesCluster, RatesTextError>
     ensures { result ≡ cluster_of (table_view table.now) }
 {
@@ -24,6 +24,7 @@ pub fn cluster(table: &Table) -> Result<RatesCluster, RatesTextError>
     let copy_in = fields::number(table, place, RatesKey::CopyIn)?;
     let channels = fields::number_or(table, place, RatesKey::Channels, 1)?;
     let store = fields::number_or(table, place, RatesKey::Store, 1)?;
+    let round = fields::number_if_any(table, place, RatesKey::Round)?;
     Ok(RatesCluster {
         precision,
         lead,
@@ -34,5 +35,7 @@ pub fn cluster(table: &Table) -> Result<RatesCluster, RatesTextError>
         copy_in,
         channels,
         store,
+        round,
+        finer: 1,
     })
 }

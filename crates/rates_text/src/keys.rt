@@ -32,6 +32,7 @@ fn keys_at(place: RatesTable) -> &'static [RatesKey]
             RatesKey::CopyIn,
             RatesKey::Channels,
             RatesKey::Store,
+            RatesKey::Round,
         ],
         RatesTable::Node(_) => &[RatesKey::Name, RatesKey::Capacity],
         RatesTable::Process(_) => &[

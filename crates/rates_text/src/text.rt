@@ -7,7 +7,7 @@ ghost use Rattle.rates_model.specs.Parts.{rates_of};
 ghost use Rattle.rates_model.specs.Rules.{IsRates};
 ghost use Rattle.rates_text.specs.Faults.{IsFaultOfPart, IsFirstRatesFault, IsTextFault, StatesRates};
 ghost use Rattle.rates_text.specs.Kinds.{index_in};
-ghost use Rattle.rates_text.specs.Stated.{node_names, process_names, processes_of, stated, stated_in, stated_reads};
+ghost use Rattle.rates_text.specs.Stated.{node_names, process_names, processes_of, stated, stated_in, stated_in_its_ticks, stated_reads};
 ghost use Rattle.rates_text.specs.Views.{table_views, tables_view};
 
 use crate::error::RatesTextError;
@@ -15,7 +15,7 @@ use crate::names::RatesNames;
 use crate::top::Tables;
 use crate::{chains, cluster, links, messages, nodes, processes, top};
 use instance_text::TextError;
-use rates_model::{Rates, RatesCluster, RatesNode, RatesParts, RatesProcess};
+use rates_model::{Rates, RatesCluster, RatesNode, RatesParts, RatesProcess, make_finer};
 use std::alloc::Global;
 use toml::Table;
 
@@ -35,6 +35,16 @@ fn document(alloc: Global, bytes: &[u8]) -> Result<Table, RatesTextError>
 fn stated_parts(alloc: Global, table: &Table) -> Result<RatesParts, RatesTextError>
     ensures ok { IfOk result (λ ps. stated (table_view table.now) ≡ Ok (rates_of ps)) }
     ensures err { IfErr result (IsFaultOfPart (stated (table_view table.now))) }
+{
+    let mut parts = parts_in_its_ticks(alloc, table)?;
+    make_finer(&mut parts);
+    Ok(parts)
+}
+
+/// These in ticks of the text, whatever round it asks for.
+fn parts_in_its_ticks(alloc: Global, table: &Table) -> Result<RatesParts, RatesTextError>
+    ensures ok { IfOk result (λ ps. stated_in_its_ticks (table_view table.now) ≡ Ok (rates_of ps)) }
+    ensures err { IfErr result (IsFaultOfPart (stated_in_its_ticks (table_view table.now))) }
 {
     let tables = top::tables_of(alloc, table)?;
     let parts = parts_in(alloc, &tables);
@@ -98,7 +108,7 @@ fn parts_behind(
     })
 }
 
-/// The cluster of several rates that the bytes state, or the first fault, in the order of `RatesTextError`. Takes time in
+/// The cluster of several rates that the bytes state, in ticks so fine that its round is as long as they ask for, or the first fault, in the order of `RatesTextError`. Takes time in
 /// proportion to the bytes, as far as names spread over their hashes.
 pub fn read(alloc: Global, bytes: &[u8]) -> Result<Rates, RatesTextError>
     ensures ok { IfOk result (λ rates. StatesRates bytes.now (Ok rates)) }

@@ -3,6 +3,7 @@
 ghost use Rattle.std.specs.Prelude.{◌≤◌, ◌↔◌, IsTrue, length};
 ghost use Rattle.ttp_model.specs.Lists.{FindsFailure};
 ghost use Rattle.rates_model.specs.declared.limits.TheConstants.{MOST_DELAY};
+ghost use Rattle.rates_model.specs.declared.error.RatesPlace.TheVariants.{AtCluster};
 ghost use Rattle.rates_model.specs.Rates.{process_at, link_at, message_at, chain_at};
 ghost use Rattle.rates_model.specs.Parts.{rates_of};
 ghost use Rattle.rates_model.specs.Rules.{KeepsRatesLimits, AreTicks, HasRanges, HasRoom};
@@ -75,12 +76,22 @@ fn wrong_age(parts: &RatesParts) -> Option<u32>
     None
 }
 
+/// Whether the numbers of the cluster are: what storing takes, and the round where one is asked for.
+fn has_cluster_ranges(parts: &RatesParts) -> bool
+    ensures { IsTrue result ↔ HasRanges (rates_of parts.now) AtCluster }
+{
+    match parts.cluster.round {
+        None => are_ticks(parts.cluster.store),
+        Some(round) => are_ticks(parts.cluster.store) && are_ticks(round),
+    }
+}
+
 /// The first place with a number outside its range.
 pub fn out_of_range(parts: &RatesParts) -> Option<RatesPlace>
     requires { KeepsRatesLimits (rates_of parts.now) }
     ensures { FindsFirst (HasRanges (rates_of parts.now)) result }
 {
-    if !are_ticks(parts.cluster.store) {
+    if !has_cluster_ranges(parts) {
         return Some(RatesPlace::AtCluster);
     }
     if let Some(p) = wrong_period(parts) {
