@@ -4,7 +4,7 @@ use Rattle.join_command.proofs.run.read_join.Goals as goal
 -- a text gives no certificate
 pub returns-in_err-certs-clause-joined : goal.returns-in_err-certs-clause-joined
 returns-in_err-certs-clause-joined g c = λ texts is.
-    unread_not_joined c.args.instance.now texts c.in_err-certs.field-0 (c.in_err-certs.ensures.read texts is)
+    unread_not_joined c.args.instance.now texts c.in_err-certs.field-0.0 (c.in_err-certs.ensures.read texts is)
 
 -- all do, and are joined
 pub returns-in-Ok-clause-joined : goal.returns-in-Ok-clause-joined
