@@ -1,5 +1,5 @@
 -- How a join ends, by what is read, joined and written.
-use Rattle.std.proofs.Common.{◌≡◌, ℕ, List, Option, None, Some, IfSome, inl, inr, refl}
+use Rattle.std.proofs.Common.{ℕ, List, Option, None, Some, IfSome, inl, inr, refl}
 use Rattle.std.specs.Io.KnownBytes.{Keeps}
 use Rattle.ttp_model.specs.Instance.{Instance}
 use Rattle.certificate.specs.Cert.{Cert}

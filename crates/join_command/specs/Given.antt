@@ -1,5 +1,5 @@
 -- Which certificates texts spell, one after another, and why they spell none.
-use Rattle.std.specs.Prelude.{◌≡◌, ℕ, ◌<◌, ◌≤◌, List, [], ◌∷◌, length, take, slice_index_or, Err}
+use Rattle.std.specs.Prelude.{ℕ, ◌<◌, ◌≤◌, List, [], ◌∷◌, length, take, slice_index_or}
 use Rattle.certificate.specs.Cert.{Cert}
 use Rattle.certificate.specs.Spelling.{SpellsCert}
 use Rattle.certificate.specs.Reading.{HasLow, IsFaultIn, Reads}

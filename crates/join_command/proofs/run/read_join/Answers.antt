@@ -1,10 +1,12 @@
+use Rattle.std.proofs.lemmas.Result.{err_from_is_err_and}
 use Rattle.join_command.proofs.Ends.{unread_not_joined, wrong_not_joined}
 use Rattle.join_command.proofs.run.read_join.Goals as goal
 
 -- a text gives no certificate
 pub returns-in_err-certs-clause-joined : goal.returns-in_err-certs-clause-joined
 returns-in_err-certs-clause-joined g c = λ texts is.
-    unread_not_joined c.args.instance.now texts c.in_err-certs.field-0.0 (c.in_err-certs.ensures.read texts is)
+    let handed = err_from_is_err_and c.from_residual.result c.from_residual.ensures.1 in
+    rw (handed.1, handed.2) (unread_not_joined c.args.instance.now texts c.in_err-certs.field-0.0 (c.in_err-certs.ensures.read texts is))
 
 -- all do, and are joined
 pub returns-in-Ok-clause-joined : goal.returns-in-Ok-clause-joined
