@@ -4,6 +4,8 @@
     tools/second_check.py verify INSTANCE PLAN     writes `valid D`
     tools/second_check.py check INSTANCE CERT      writes `bound LOW`
     tools/second_check.py judge INSTANCE PLAN CERT writes `least D`, `none` or `between LOW BEST`
+    tools/second_check.py join INSTANCE CERT CERT.. [--cert FILE]
+                                                   writes `bound LOW`, and to FILE the certificates' joined one
     tools/second_check.py schedule INSTANCE PLAN [--table processes|slots|messages]
                                                    writes the table
     tools/second_check.py draw INSTANCE PLAN [--width PX] [--used]
@@ -28,7 +30,7 @@
     tools/second_check.py repeat RATES [PLAN]      writes how that repeats, and what its plan means in all cycles
 
 Anything else is told in one line on standard error, with the words and the statuses of `ttplan verify`, `check`, `judge`,
-`schedule`, `draw`, `tables`, `period`, `replay`, `compare`, `unroll` and `repeat`. A plan of a cluster with several periods is judged for
+`join`, `schedule`, `draw`, `tables`, `period`, `replay`, `compare`, `unroll` and `repeat`. A plan of a cluster with several periods is judged for
 `repeat` by its unrolled instance, and once more by the jobs of six cycles: where the two differ the line is `repeat wrong`, with what is,
 and the status 1.
 It was written from docs/FORMATS.md and docs/CERTIFICATES.md alone, but for the elements and colours of a picture, which stand in
@@ -1540,6 +1542,102 @@ def check(instance, certificate_text):
     return f"bound {proved_bound(instance, certificate_text)}"
 
 
+# Certificates side by side
+
+
+@contextlib.contextmanager
+def of_certificate(k):
+    """Tells what is wrong with one of several certificates by its number, from 0."""
+    try:
+        yield
+    except Refused as fault:
+        raise Refused(fault.status, f"join {k} {fault.line}") from fault
+
+
+def ends_of(nodes):
+    """Of each node the place behind its tree."""
+    ends = [0] * len(nodes)
+    for place in reversed(range(len(nodes))):
+        _, word, numbers, _ = nodes[place]
+        end = place + 1
+        for _ in range(0 if word == b"leaf" else children_stated(word, numbers)):
+            end = ends[end]
+        ends[place] = end
+    return ends
+
+
+def places_below(ends, place, count):
+    """The places of a branch's children."""
+    place += 1
+    for _ in range(count):
+        yield place
+        place = ends[place]
+
+
+def standing(instance, choice, goal, steps):
+    """The steps by which a leaf from above closes a choice: its own, or those before one that isn't lawful and a message's `x-round`."""
+    facts = Facts(instance, choice, goal)
+    for k, step in enumerate(steps):
+        word, numbers = parts(step)
+        if not STEP_FUNCTIONS[word](facts, *numbers):
+            unsent = next(m for m, _ in enumerate(instance.messages) if facts.top[m] <= facts.lo[m])
+            return [*steps[:k], b"x-round %d" % unsent]
+    assert facts.closed
+    return steps
+
+
+def joined_nodes(instance, certificates):
+    """The joined tree of certificates: each node's line, and those of its steps; raises Refused."""
+    trees = [(low, nodes, ends_of(nodes)) for low, nodes in certificates]
+    # Of each place still to come the choice, the best leaf from above, and the certificates that have a tree there; the next one last.
+    places = [(root(instance), None, [(k, 0) for k in range(len(trees))])]
+    while places:
+        choice, best, tops = places.pop()
+        own, leader = None, None
+        for k, place in tops:
+            _, word, (goal, *_), steps = trees[k][1][place]
+            if word == b"leaf":
+                if best is None or goal > best[0]:
+                    best, own = (goal, steps), (k, place)
+            elif leader is None or trees[k][0] > trees[leader[0]][0]:
+                leader = k, place
+        if own:
+            with of_certificate(own[0]):
+                check_leaf(instance, choice, 0, trees[own[0]][1][own[1]])
+        if leader is None:
+            goal, steps = best
+            steps = standing(instance, choice, goal, steps)
+            yield b"leaf %d %d" % (goal, len(steps)), goal, steps
+            continue
+        line, word, numbers, _ = trees[leader[0]][1][leader[1]]
+        below = children(instance, choice, word, numbers)
+        with of_certificate(leader[0]):
+            if below is None:
+                raise certificate_fault("C2", line)
+            if len(below) != children_stated(word, numbers):
+                raise certificate_fault("C1", line)
+        yield b" ".join([word, *(b"%d" % number for number in numbers)]), None, []
+        columns = [[(k, at) for at in places_below(trees[k][2], place, len(below))]
+                   for k, place in tops if trees[k][1][place][1:3] == (word, numbers)]
+        places += [(child, best, list(there)) for child, there in zip(below, zip(*columns))][::-1]
+
+
+def joined(instance, texts):
+    """What the certificates of these texts prove side by side, and the text of their joined one; raises Refused."""
+    certificates = []
+    for k, text in enumerate(texts):
+        with of_certificate(k):
+            if len(text) > CERTIFICATE_BYTES:
+                raise Refused(6, "read certificate")
+            certificates.append(read_certificate(text))
+    low, lines = instance.horizon + 1, []
+    for line, goal, steps in joined_nodes(instance, certificates):
+        low = low if goal is None else min(low, goal)
+        lines += [line, *steps]
+    head = [b"ttcert %d" % instance.channels, b"low %d" % low]
+    return low, b"".join(line + b"\n" for line in head + lines)
+
+
 # Why there is no plan
 
 
@@ -2167,6 +2265,7 @@ def repeat(paths):
 
 
 USAGE = ("usage: second_check.py verify INSTANCE PLAN | check INSTANCE CERT | judge INSTANCE PLAN CERT"
+         " | join INSTANCE CERT CERT.. [--cert FILE]"
          " | schedule INSTANCE PLAN [--table TABLE] | draw INSTANCE PLAN [--width PX] [--used]"
          " | tables INSTANCE PLAN [--rounds N] | period INSTANCE PLAN PERIOD"
          " | replay INSTANCE PLAN [LOSS].."
@@ -2206,6 +2305,31 @@ def judge(paths):
         judged = Instance(taken(instance, "instance", INSTANCE_BYTES))
         delay = given_delay(judged, taken(plan, "plan", PRINTED_BYTES))
         return judgement(judged, delay, proved_bound(judged, taken(certificate, "certificate", CERTIFICATE_BYTES)))
+
+
+def join(words):
+    """The bound that the certificates of files prove side by side, whose joined one is written where a file is named for it."""
+    words, made = (words[:-2], words[-1]) if words[-2:-1] == ["--cert"] else (words, None)
+    if len(words) < 3 or made in words:
+        raise Refused(2, USAGE)
+    with contextlib.ExitStack() as files:
+        instance = files.enter_context(opened(words[0], "instance"))
+        certificates = []
+        for k, path in enumerate(words[1:]):
+            with of_certificate(k):
+                certificates.append(files.enter_context(opened(path, "certificate")))
+        judged = Instance(taken(instance, "instance", INSTANCE_BYTES))
+        texts = []
+        for k, certificate in enumerate(certificates):
+            with of_certificate(k):
+                texts.append(taken(certificate, "certificate", CERTIFICATE_BYTES))
+        low, text = joined(judged, texts)
+    if made is not None:
+        try:
+            pathlib.Path(made).write_bytes(text)
+        except OSError as fault:
+            raise Refused(6, "write certificate") from fault
+    return f"bound {low}", 0
 
 
 def chosen_by(instance, names, command="limit"):
@@ -2447,6 +2571,8 @@ def drawing_of(words):
 def run(words):
     if len(words) == 4 and words[0] == "judge":
         return judge(words[1:])
+    if len(words) >= 4 and words[0] == "join":
+        return join(words[1:])
     if len(words) == 5 and words[0] == "compare":
         return compare(words[1:])
     if len(words) >= 3 and words[0] == "replay":

@@ -1,12 +1,13 @@
 -- What holds of a request.
-use Rattle.std.specs.Prelude.{◌≤◌, ℕ, List, length, IfSome}
+use Rattle.std.specs.Prelude.{◌≤◌, ℕ, List, All, length, IfSome}
 use Rattle.command_line.specs.declared.words.Request.{Request}
-use Rattle.command_line.specs.declared.words.Request.TheVariants.{OfRounds, OnFiles, Solve, Why as Asking, Limit as Limiting, Margin as Lengthening}
+use Rattle.command_line.specs.declared.words.Request.TheVariants.{OfRounds, OnFiles, Solve, Why as Asking, Limit as Limiting, Margin as Lengthening, Join}
 use Rattle.command_line.specs.declared.words.Effort.{Effort}
 use Rattle.command_line.specs.declared.words.Search.{Search}
 use Rattle.command_line.specs.declared.words.Question.{Question}
 use Rattle.command_line.specs.declared.words.Limit.{Limit}
 use Rattle.command_line.specs.declared.words.Margin.{Margin}
+use Rattle.command_line.specs.declared.words.Joining.{Joining}
 use Rattle.command_line.specs.declared.words.Task.{Task}
 use Rattle.command_line.specs.declared.words.Task.TheVariants.{Draw}
 use Rattle.command_line.specs.declared.words.RoundsTask.{RoundsTask}
@@ -60,6 +61,12 @@ pub record IsSoundMargin (margin : Margin) : Type 0 where
   pub some : 1 ≤ margin.within
   pub few : margin.within ≤ most_ticks
 
+-- certificates that are joined are two at least, and the joined one is written, by its name, to none of the files that are read
+pub record IsSoundJoining (joining : Joining) : Type 0 where
+  pub named : 2 ≤ length joining.certificates.items
+  pub spared : IfSome joining.joined (λ file. IsOtherFile file.now joining.instance.now)
+  pub apart : IfSome joining.joined (λ file. All (λ other. IsOtherFile file.now other.now) joining.certificates.items)
+
 abbrev pub IsSound : Request → Type 0
 IsSound (OnFiles instance plan task) = IsSoundTask task
 IsSound (OfRounds instance plan task) = IsSoundRounds task
@@ -67,4 +74,5 @@ IsSound (Solve search) = IsSoundSearch search
 IsSound (Asking why) = IsSoundQuestion why.question
 IsSound (Limiting limit) = IsSoundLimit limit
 IsSound (Lengthening margin) = IsSoundMargin margin
+IsSound (Join joining) = IsSoundJoining joining
 IsSound _ = Unit {0}

@@ -5,6 +5,7 @@ ghost use Rattle.command_line.specs.Requests.{IsSound};
 
 use crate::commands::program;
 use crate::given::Given;
+use crate::joining::join_request;
 use crate::misuse::Misuse;
 use crate::options::{
     ANY_PLAN, CERTIFICATE, EXPLAINED_CERT, EXPLAINED_PLAN, FORMAT, INSTANCE, NEW_INSTANCE,
@@ -114,6 +115,7 @@ fn request_of<'a>(
         Asks::Margin => margin_request(alloc, given),
         Asks::Verify => verify_request(given),
         Asks::Check => check_request(given),
+        Asks::Join => join_request(alloc, given),
         Asks::Judge => judge_request(given),
         Asks::Explain => explain_request(given),
         Asks::Tables => tables_request(given),

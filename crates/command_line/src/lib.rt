@@ -4,6 +4,7 @@
 mod asking;
 mod commands;
 mod given;
+mod joining;
 mod misuse;
 mod names;
 mod options;
@@ -21,6 +22,6 @@ pub use refusal::refuse;
 pub use rows::Row;
 pub use table::Asks;
 pub use words::{
-    AnswerForm, Effort, Explained, Limit, Margin, Question, Request, RoundsTask, Search, Task,
-    VERSION, Why, all,
+    AnswerForm, Effort, Explained, Joining, Limit, Margin, Question, Request, RoundsTask, Search,
+    Task, VERSION, Why, all,
 };

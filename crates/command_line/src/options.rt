@@ -48,6 +48,14 @@ pub const CERTIFICATE: &Row = &Row {
     help: "The certificate's text",
 };
 
+/// The files of certificates that are joined.
+pub const CERTIFICATES: &Row = &Row {
+    name: "CERT",
+    place: Place::Words,
+    takes: Takes::Text,
+    help: "The text of a certificate of INSTANCE, of which there are two at least",
+};
+
 /// Frames that are lost.
 pub const LOSSES: &Row = &Row {
     name: "LOSS",
@@ -130,7 +138,7 @@ pub const NEW_PLAN: &Row = &Row {
 const OVER_INSTANCE: &str = "that is the instance's file, which would be emptied";
 
 /// Of one that is another file of the command.
-const OVER_OTHER: &str = "another file of the command would be emptied";
+pub const OVER_OTHER: &str = "another file of the command would be emptied";
 
 /// And of one in which a plan can't be kept.
 const OVER_KEPT: &str = "a plan kept there would take the place of another file of the search";
@@ -249,6 +257,18 @@ pub const CERT_OF_LAST: &Row = &Row {
         over_other: OVER_OTHER,
     }),
     help: "Also writes the certificate of the last search to this file, before the answer is printed: `ttplan check` accepts it for the file of `--reduced`. A file that is there is emptied first; INSTANCE itself is refused",
+};
+
+/// The file of a joined certificate.
+pub const CERT_OF_ALL: &Row = &Row {
+    name: "cert",
+    place: Place::Option("FILE"),
+    takes: Takes::File(Written {
+        sink: Sink::Certificate,
+        over_instance: OVER_INSTANCE,
+        over_other: OVER_OTHER,
+    }),
+    help: "Also writes the joined certificate to this file, before the bound is printed; `ttplan check INSTANCE FILE` accepts it. A file that is there is emptied first; INSTANCE itself is refused, and each CERT",
 };
 
 /// The file of a certificate that is to be explained.

@@ -1,11 +1,11 @@
 //! Which commands are there, with which words and options, and what does the help say of each?
 
 use crate::options::{
-    ANY_PLAN, BUDGET, CERT, CERT_OF_LAST, CERT_OF_MORE, CERT_OF_NONE, CERTIFICATE, EXPLAINED_CERT,
-    EXPLAINED_PLAN, FORMAT, GAP, INSTANCE, KEEP, LATE, LOSSES, NEW_INSTANCE, NEW_PLAN, NODE,
-    OLD_INSTANCE, OLD_PLAN, PERIOD_TICKS, PERMILLE, PLAN, PROCESSES, PROGRESS, RATES, REDUCED,
-    ROUNDS, RUNNERS, SCHEDULE_FORMAT, SEARCH_BUDGET, SEARCHED, SEARCHES_PROGRESS, SECONDS, START,
-    TABLE, UNTIL, USED, WIDTH, WITH_MORE, WITHIN, WORKERS,
+    ANY_PLAN, BUDGET, CERT, CERT_OF_ALL, CERT_OF_LAST, CERT_OF_MORE, CERT_OF_NONE, CERTIFICATE,
+    CERTIFICATES, EXPLAINED_CERT, EXPLAINED_PLAN, FORMAT, GAP, INSTANCE, KEEP, LATE, LOSSES,
+    NEW_INSTANCE, NEW_PLAN, NODE, OLD_INSTANCE, OLD_PLAN, PERIOD_TICKS, PERMILLE, PLAN, PROCESSES,
+    PROGRESS, RATES, REDUCED, ROUNDS, RUNNERS, SCHEDULE_FORMAT, SEARCH_BUDGET, SEARCHED,
+    SEARCHES_PROGRESS, SECONDS, START, TABLE, UNTIL, USED, WIDTH, WITH_MORE, WITHIN, WORKERS,
 };
 use crate::rows::Row;
 
@@ -18,6 +18,7 @@ pub enum Asks {
     Margin,
     Verify,
     Check,
+    Join,
     Judge,
     Explain,
     Tables,
@@ -129,6 +130,16 @@ const CHECK: &CommandRow = &CommandRow {
     after: None,
 };
 
+/// Joins certificates.
+const JOIN: &CommandRow = &CommandRow {
+    name: "join",
+    about: "Joins certificates of an instance into one, and prints `bound` with the delay that no plan is below",
+    rows: &[INSTANCE, CERTIFICATES, CERT_OF_ALL],
+    after: Some(
+        "Where leaves of several certificates stand at one place, the joined one has the leaf with the greatest goal there; where a leaf stands above branches, it goes down to each of theirs. Branches that differ aren't joined: those of the certificate with the greatest bound stand. Each leaf that is taken is checked where it stands, so the bound holds whatever the certificates say. One that is refused is told by its number, from 0, behind `join`, with the line of `ttplan check`.",
+    ),
+};
+
 /// Judges a plan by a certificate.
 const JUDGE: &CommandRow = &CommandRow {
     name: "judge",
@@ -221,6 +232,7 @@ pub const COMMANDS: &[Asks] = &[
     Asks::Margin,
     Asks::Verify,
     Asks::Check,
+    Asks::Join,
     Asks::Judge,
     Asks::Explain,
     Asks::Tables,
@@ -241,6 +253,7 @@ pub fn row_of(asks: Asks) -> &'static CommandRow {
         Asks::Margin => MARGIN,
         Asks::Verify => VERIFY,
         Asks::Check => CHECK,
+        Asks::Join => JOIN,
         Asks::Judge => JUDGE,
         Asks::Explain => EXPLAIN,
         Asks::Tables => TABLES,

@@ -121,6 +121,16 @@ pub struct Margin<'a> {
     pub within: u32,
 }
 
+/// Which certificates of an instance are to be joined.
+#[derive(Debug, Drop)]
+pub struct Joining<'a> {
+    pub instance: &'a str,
+    /// The files of these certificates, in the order of the words.
+    pub certificates: Vec<&'a str>,
+    /// Where the joined one is written.
+    pub joined: Option<&'a str>,
+}
+
 /// A command, with the files that it names.
 #[derive(Debug, Drop)]
 pub enum Request<'a> {
@@ -153,6 +163,8 @@ pub enum Request<'a> {
         instance: &'a str,
         certificate: &'a str,
     },
+    /// Join the certificates of some files for the instance of another.
+    Join(Joining<'a>),
     /// Judge the plan of one file for the instance of another by the certificate of a third.
     Judge {
         instance: &'a str,

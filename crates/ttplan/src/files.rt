@@ -77,15 +77,15 @@ impl FileFault<'_> {
 
 /// A file that is written.
 #[derive(Drop)]
-struct Made<'a> {
-    file: File,
-    name: &'a str,
+pub struct Made<'a> {
+    pub file: File,
+    pub name: &'a str,
     /// Whether it wasn't there before.
     is_new: bool,
 }
 
 /// The file itself, where one is written.
-fn file_of(made: Option<Made<'_>>) -> Option<File> {
+pub fn file_of(made: Option<Made<'_>>) -> Option<File> {
     match made {
         Some(made) => Some(made.file),
         None => None,
@@ -263,7 +263,7 @@ impl<'a> Opened<'a> {
 
 /// Whether two files are one, by the device and the number that the system knows each by. A terminal isn't emptied, nor is a device that
 /// is like one, so two of its names may be used.
-fn is_one(a: &File, b: &File) -> bool {
+pub fn is_one(a: &File, b: &File) -> bool {
     match (a.metadata(), b.metadata()) {
         (Ok(a), Ok(b)) => {
             !a.file_type().is_char_device() && a.dev() == b.dev() && a.ino() == b.ino()
@@ -290,7 +290,11 @@ fn kept<'a>(rt: &HostRuntime, name: Option<&str>) -> Result<Option<File>, FileFa
 }
 
 /// The file of this name, opened to be read.
-fn file_to_read<'a>(rt: &HostRuntime, source: Source, name: &str) -> Result<File, FileFault<'a>> {
+pub fn file_to_read<'a>(
+    rt: &HostRuntime,
+    source: Source,
+    name: &str,
+) -> Result<File, FileFault<'a>> {
     match File::open(rt, name) {
         Ok(file) => Ok(file),
         Err(_) => Err(FileFault::Unread(source)),
@@ -307,7 +311,7 @@ fn file_to_start<'a>(rt: &HostRuntime, name: Option<&str>) -> Result<Option<File
 }
 
 /// The file that an option names, opened to be written: where it is there, as it is.
-fn file_to_write<'a>(
+pub fn file_to_write<'a>(
     rt: &HostRuntime,
     sink: Sink,
     name: Option<&'a str>,
@@ -330,7 +334,7 @@ fn file_to_write<'a>(
 }
 
 /// Takes a file away that wasn't there before.
-fn take_back(rt: &HostRuntime, made: &Option<Made<'_>>) {
+pub fn take_back(rt: &HostRuntime, made: &Option<Made<'_>>) {
     if let Some(made) = made {
         if made.is_new {
             let _ = fs::remove_file(rt, made.name);
@@ -339,7 +343,7 @@ fn take_back(rt: &HostRuntime, made: &Option<Made<'_>>) {
 }
 
 /// Empties a file; a pipe and a device hold nothing.
-fn empty<'a>(sink: Sink, made: &Option<Made<'a>>) -> Result<(), FileFault<'a>> {
+pub fn empty<'a>(sink: Sink, made: &Option<Made<'a>>) -> Result<(), FileFault<'a>> {
     let Some(made) = made else {
         return Ok(());
     };

@@ -119,7 +119,7 @@ pub fn told(rt: &HostRuntime, end: &End, said: &Said) -> u8 {
 }
 
 /// Says beside the line of a fault which command explains it, or what it means, where standard error is a terminal.
-fn hint_at_fault(rt: &HostRuntime, said: &Said, fault: &Fault) {
+pub fn hint_at_fault(rt: &HostRuntime, said: &Said, fault: &Fault) {
     let mut err = rt.stderr();
     if err.is_terminal() && status_of_fault(fault) != WANT_OF_MEMORY {
         let _ = write_hint(&mut err, said, fault);

@@ -5,6 +5,7 @@ ghost use Rattle.command_line.specs.Requests.{IsSound};
 
 mod files;
 mod hints;
+mod joining;
 mod judging;
 mod longer;
 mod plan_file;
@@ -15,6 +16,7 @@ mod version;
 use crate::hints::{Said, told};
 use command_line::{Request, refuse, request_in};
 pub use command_streams::{End, Fault, Release, SearchFault, Sink, Source, report, status};
+pub use join_command::{JoinEnd, join_run, join_status, report_join};
 pub use json_commands::{
     Beside, Wanted, compare_json, explain_certificate, explain_certificate_json, explain_instance,
     explain_instance_json, explain_plan, explain_plan_json, judge_json, limit_json, limit_run,
@@ -58,6 +60,7 @@ fn run(rt: &HostRuntime, threads: &(impl Threads + Wait + Sync), request: Reques
             instance,
             certificate,
         } => judging::check(rt, threads, instance, certificate),
+        Request::Join(joining) => joining::join(rt, &joining),
         Request::Judge {
             instance,
             plan,
