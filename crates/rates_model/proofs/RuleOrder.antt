@@ -4,6 +4,7 @@ use Rattle.rates_model.specs.Rates.{Rates}
 use Rattle.rates_model.specs.Rules.{Lengths, Receivers, Throughs, Names, NewNames, Indices, Ranges, Rooms, Chains, Slots, Cycles, Rounds, RatesRule, IsRates, KeepsRatesRule}
 use Rattle.rates_model.specs.Refusals.{KeepsRatesRulesBefore, rates_rule_number}
 
+-- those before the rule on the round that is asked for, and that rule
 pub before_cycles : (rho : Rates) → KeepsRatesRulesBefore rho Slots → KeepsRatesRule rho Slots → KeepsRatesRulesBefore rho Cycles
 before_cycles rho before last = record { each = each }
   where
@@ -21,6 +22,7 @@ before_cycles rho before last = record { each = each }
     each Cycles lower = absurd (omega (arith, lower))
     each Rounds lower = absurd (omega (arith, lower))
 
+-- those before the rule on the cycle, and that rule
 pub before_rounds : (rho : Rates) → KeepsRatesRulesBefore rho Cycles → KeepsRatesRule rho Cycles → KeepsRatesRulesBefore rho Rounds
 before_rounds rho before last = record { each = each }
   where

@@ -1,16 +1,15 @@
 -- With the share of each slot a round is as long as is asked for.
-use Rattle.std.proofs.Common.{◌≡◌, ◌∙◌, ℕ, zero, suc, ◌+◌, ◌-◌, ◌*◌, ◌/◌, ◌%◌, ◌^◌, ◌<◌, ◌≤◌, min, max, List, [], ◌∷◌, length, sum_by, Some, arith, inl, inr, ap, sym, refl, subst}
+use Rattle.std.proofs.Common.{◌≡◌, ◌∙◌, ℕ, zero, suc, ◌+◌, ◌-◌, ◌*◌, ◌%◌, ◌^◌, ◌<◌, ◌≤◌, min, List, [], ◌∷◌, length, sum_by, Some, arith, inl, inr, ap, sym, refl, subst}
 use Rattle.std.proofs.lemmas.Bool.{cases_lt}
 use Rattle.std.proofs.lemmas.List.Sums.{sum_by-cons}
 use Rattle.std.proofs.Math.Nat.{div-add-mod, mul-add, add-mul, mul_assoc, mul_comm, mul-le-mul_left, one-mul, zero-mul, mul-zero, zero-mod}
-use Rattle.ttp_model.specs.Limits.{most_nodes, most_ticks}
+use Rattle.ttp_model.specs.Limits.{most_ticks}
 use Rattle.ttp_model.specs.Slots.{slot_duration}
 use Rattle.rates_model.specs.declared.parts.RatesCluster.{RatesCluster}
 use Rattle.rates_model.specs.declared.parts.RatesNode.{RatesNode}
-use Rattle.rates_model.specs.declared.error.RatesPlace.TheVariants.{AtCluster}
 use Rattle.rates_model.specs.Rates.{Rates}
-use Rattle.rates_model.specs.Cycles.{bus_for, least_times, round_of}
-use Rattle.rates_model.specs.Finer.{finer, finer_cluster, finer_ticks, in_finer_ticks, rest_of, share_of, sharing_slots, times}
+use Rattle.rates_model.specs.Cycles.{bus_for, round_of}
+use Rattle.rates_model.specs.Finer.{finer, finer_cluster, finer_ticks, in_finer_ticks, rest_of, share_of, sharing_slots}
 use Rattle.rates_model.specs.Rules.{IsRates}
 use Rattle.rates_model.proofs.Multiples.{least_times_is, least_times_whole}
 
@@ -50,13 +49,16 @@ module _ (c : RatesCluster) (f s : ℕ) where
   unfolding finer_cluster
   longer n small =
       let most : ℕ = 2 ^ 32 - 1 in
-      let is : longer_slot n ≡ min (c.lead * f) most + (min (c.head * f) most + min (c.per_byte * f) most * n.capacity) + min (min (c.trail * f) most + s) most = refl in
+      let is : longer_slot n
+      ≡ min (c.lead * f) most + (min (c.head * f) most + min (c.per_byte * f) most * n.capacity) + min (min (c.trail * f) most + s) most =
+      refl in
       let lead = uncut (c.lead * f) (omega (arith, is, small)) in
       let head = uncut (c.head * f) (omega (arith, is, small)) in
       let bytes = uncut_times (c.per_byte * f) n.capacity (omega (arith, is, small)) in
       let trail = uncut (min (c.trail * f) most + s) (omega (arith, is, small)) in
       let before = uncut (c.trail * f) (omega (arith, is, trail, small)) in
-      let turned : c.per_byte * f * n.capacity ≡ c.per_byte * n.capacity * f = mul_assoc c.per_byte f n.capacity ∙ ap (λ k. c.per_byte * k) (mul_comm f n.capacity) ∙ sym (mul_assoc c.per_byte n.capacity f) in
+      let turned : c.per_byte * f * n.capacity ≡ c.per_byte * n.capacity * f =
+      mul_assoc c.per_byte f n.capacity ∙ ap (λ k. c.per_byte * k) (mul_comm f n.capacity) ∙ sym (mul_assoc c.per_byte n.capacity f) in
       omega (arith, is, lead, head, bytes, trail, before, turned, spread)
     where
       frame : ℕ
@@ -111,7 +113,8 @@ module _ (rho : Rates) (round : ℕ) (asked : rho.cluster.round ≡ Some round) 
     nothing_left : round < round_of rho → f ≡ 1
     nothing_left over =
         let zero_rest : rest ≡ 0 = omega (arith, over) in
-        rw zero_rest (least_times_is 0 (sharing_slots rho) (omega (arith, shared, some_nodes)) 0 (ap (λ k. k % sharing_slots rho) (zero-mul 1) ∙ zero-mod (sharing_slots rho)) (λ i below. absurd (omega (arith, below))))
+        let whole : 0 * (0 + 1) % sharing_slots rho ≡ 0 = ap (λ k. k % sharing_slots rho) (zero-mul 1) ∙ zero-mod (sharing_slots rho) in
+        rw zero_rest (least_times_is 0 (sharing_slots rho) (omega (arith, shared, some_nodes)) 0 whole (λ i below. absurd (omega (arith, below))))
 
     slots_within : round_of rho ≤ round
     slots_within = elim (cases_lt round (round_of rho)) [
