@@ -13,10 +13,12 @@ use crate::path_parts::ChainPart;
 use crate::runs::RunLine;
 use longest_chains::longest_chains;
 use plan_facts::must_end_by;
-use sentences::{MOST_ITEMS, Ticks};
+use sentences::Word::{Number, Text, Ticks};
+use sentences::{MOST_ITEMS, tell};
 use serde::Serialize;
 use std::alloc::Global;
 use std::fmt;
+use std::fmt::Display;
 use ttp_model::{Instance, MemoryFault};
 
 /// A process that ends too late even at the earliest; in ticks.
@@ -81,9 +83,13 @@ fn late_process(instance: &Instance, part: ChainPart) -> LateProcess<'_>
 
 impl<'a> fmt::Display for LateProcess<'a> {
     fn fmt<W: fmt::Write>(&self, f: &mut fmt::Formatter<W>) -> fmt::Result {
-        let (limit, latest, by) = (self.limit, self.latest, Ticks(self.by));
-        write!(f, "{}", self.run)?;
-        writeln!(f, "    {limit} is {latest}: {by} too late")
+        let (limit, latest, by) = (self.limit.words(), self.latest, Ticks(self.by));
+        self.run.fmt(f)?;
+        tell(
+            f,
+            "    {} is {}: {} too late\n",
+            &[Text(limit), Number(u64::from(latest)), by],
+        )
     }
 }
 
@@ -93,16 +99,14 @@ impl<'a> fmt::Display for LateProcesses<'a> {
         if processes.is_empty() {
             return Ok(());
         }
-        writeln!(
-            f,
-            "These end too late even at the earliest, so no plan is valid:"
-        )?;
+        f.write_str("These end too late even at the earliest, so no plan is valid:\n")?;
         let count = processes.len();
         for k in 0..count.min(MOST_ITEMS) {
-            write!(f, "{}", &processes[k])?;
+            processes[k].fmt(f)?;
         }
         if MOST_ITEMS < count {
-            writeln!(f, "  and {} more", count - MOST_ITEMS)?;
+            let more = count - MOST_ITEMS;
+            tell(f, "  and {} more\n", &[Number(more as u64)])?;
         }
         Ok(())
     }

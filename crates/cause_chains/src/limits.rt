@@ -3,13 +3,11 @@
 ghost use Rattle.std.specs.Prelude.{◌<◌, length};
 ghost use Rattle.cause_chains.specs.Limits.{IsLimit};
 
-use serde::Serialize;
-use std::fmt;
+use serde::{Described, Serialize, Serializer};
 use ttp_model::Instance;
 
 /// What a process has to end by. Where its deadline and the horizon are one tick it is the deadline.
-#[derive(Clone, Copy, Serialize)]
-#[serde(rename_all = "snake_case")]
+#[derive(Clone, Copy)]
 pub enum Limit {
     Deadline,
     Horizon,
@@ -27,11 +25,28 @@ pub fn limit_of(instance: &Instance, p: usize) -> Limit
     }
 }
 
-impl fmt::Display for Limit {
-    fn fmt<W: fmt::Write>(&self, f: &mut fmt::Formatter<W>) -> fmt::Result {
+impl Limit {
+    /// What it is called in a sentence.
+    pub fn words(self) -> &'static str {
         match self {
-            Limit::Deadline => write!(f, "its deadline"),
-            Limit::Horizon => write!(f, "the horizon"),
+            Limit::Deadline => "its deadline",
+            Limit::Horizon => "the horizon",
         }
+    }
+
+    /// What it is called as a value.
+    pub fn name(self) -> &'static str {
+        match self {
+            Limit::Deadline => "deadline",
+            Limit::Horizon => "horizon",
+        }
+    }
+}
+
+impl Described for Limit {}
+
+impl Serialize for Limit {
+    fn serialize<S: Serializer>(&self, out: &mut S) -> Result<(), S::Error> {
+        out.str(self.name())
     }
 }

@@ -9,14 +9,16 @@ ghost use Rattle.cause_chains.specs.PathThere.{IsPartThere};
 use crate::path_parts::{ChainPart, path_parts_of};
 use crate::runs::{RunLine, StartCause, run_line};
 use longest_chains::least_transfer;
-use sentences::Ticks;
-use serde::Serialize;
+use sentences::Word::{Number, Text, Ticks};
+use sentences::{Member, long_number_if_any, tell, write_members, write_members_and};
+use serde::{Described, Serialize, Serializer};
 use std::alloc::Global;
 use std::fmt;
+use std::fmt::Display;
 use ttp_model::{Instance, MemoryFault};
 
 /// A message on its way, from the end of its sender until it is there; in ticks.
-#[derive(Clone, Copy, Serialize)]
+#[derive(Clone, Copy)]
 pub struct Transfer<'a> {
     pub from: u64,
     pub until: u64,
@@ -35,7 +37,7 @@ pub struct PathPart<'a> {
 }
 
 /// Why no plan ends before the path bound.
-#[derive(Drop, Serialize)]
+#[derive(Drop)]
 pub struct PathChain<'a> {
     /// The path bound, in ticks.
     pub bound: u64,
@@ -136,13 +138,37 @@ fn transfer_until(instance: &Instance, m: usize, until: u64) -> Transfer<'_>
     }
 }
 
+impl<'a> Described for Transfer<'a> {}
+
+impl<'a> Serialize for Transfer<'a> {
+    fn serialize<S: Serializer>(&self, out: &mut S) -> Result<(), S::Error> {
+        write_members(
+            &[
+                ("from", Member::Number(self.from)),
+                ("until", Member::Number(self.until)),
+                ("message", Member::Text(self.message)),
+                ("node", Member::Text(self.node)),
+                ("ticks", Member::Number(self.ticks)),
+            ],
+            out,
+        )
+    }
+}
+
 impl<'a> fmt::Display for Transfer<'a> {
     fn fmt<W: fmt::Write>(&self, f: &mut fmt::Formatter<W>) -> fmt::Result {
         let (from, until) = (self.from, self.until);
         let (message, node, ticks) = (self.message, self.node, Ticks(self.ticks));
-        writeln!(
+        tell(
             f,
-            "  {from} to {until}  {message} from {node}, which takes {ticks} at least"
+            "  {} to {}  {} from {}, which takes {} at least\n",
+            &[
+                Number(from),
+                Number(until),
+                Text(message),
+                Text(node),
+                ticks,
+            ],
         )
     }
 }
@@ -150,25 +176,42 @@ impl<'a> fmt::Display for Transfer<'a> {
 impl<'a> fmt::Display for PathPart<'a> {
     fn fmt<W: fmt::Write>(&self, f: &mut fmt::Formatter<W>) -> fmt::Result {
         if let Some(transfer) = self.transfer {
-            write!(f, "{transfer}")?;
+            transfer.fmt(f)?;
         }
-        write!(f, "{}", self.run)
+        self.run.fmt(f)
+    }
+}
+
+impl<'a> Described for PathChain<'a> {}
+
+impl<'a> Serialize for PathChain<'a> {
+    fn serialize<S: Serializer>(&self, out: &mut S) -> Result<(), S::Error> {
+        let members = [
+            ("bound", Member::Number(self.bound)),
+            ("horizon", Member::Number(u64::from(self.horizon))),
+            ("past", long_number_if_any(self.past)),
+        ];
+        write_members_and(&members, "parts", &self.parts, out)
     }
 }
 
 impl<'a> fmt::Display for PathChain<'a> {
     fn fmt<W: fmt::Write>(&self, f: &mut fmt::Formatter<W>) -> fmt::Result {
         let (bound, horizon, parts) = (self.bound, self.horizon, self.parts.as_slice());
-        writeln!(f, "No plan ends before {bound}, by this chain:")?;
+        tell(
+            f,
+            "No plan ends before {}, by this chain:\n",
+            &[Number(bound)],
+        )?;
         let count = parts.len();
         for k in 0..count {
-            write!(f, "{}", &parts[count - 1 - k])?;
+            parts[count - 1 - k].fmt(f)?;
         }
         if let Some(by) = self.past {
-            let by = Ticks(by);
-            writeln!(
+            tell(
                 f,
-                "  the horizon is {horizon}: {by} too late, so no plan is valid"
+                "  the horizon is {}: {} too late, so no plan is valid\n",
+                &[Number(u64::from(horizon)), Ticks(by)],
             )?;
         }
         Ok(())

@@ -9,13 +9,16 @@ ghost use Rattle.cause_chains.specs.PlanThere.{IsLinkThere};
 use crate::plan_links::{ChainLink, RoundCause, plan_links_of};
 use crate::runs::{RunLine, run_line};
 use plan_facts::ready_at;
-use serde::Serialize;
+use sentences::Word::{Number, Text};
+use sentences::{Member, tell, write_kind, write_members, write_members_and};
+use serde::{Described, Serialize, Serializer};
 use std::alloc::Global;
 use std::fmt;
+use std::fmt::Display;
 use ttp_model::{Instance, MemoryFault, Plan, delay};
 
 /// A message in its slot; in ticks.
-#[derive(Clone, Copy, Serialize)]
+#[derive(Clone, Copy)]
 pub struct SendingLine<'a> {
     pub from: u64,
     pub until: u64,
@@ -28,15 +31,14 @@ pub struct SendingLine<'a> {
 }
 
 /// What is told of a link of a chain.
-#[derive(Clone, Copy, Serialize)]
-#[serde(tag = "kind", rename_all = "snake_case")]
+#[derive(Clone, Copy)]
 pub enum ChainLine<'a> {
     Run(RunLine<'a>),
     Sending(SendingLine<'a>),
 }
 
 /// Why a valid plan ends when it does.
-#[derive(Drop, Serialize)]
+#[derive(Drop)]
 pub struct PlanChain<'a> {
     /// The plan's delay, in ticks.
     pub delay: u64,
@@ -126,47 +128,107 @@ fn sending_line<'a>(
     }
 }
 
+impl<'a> Described for SendingLine<'a> {}
+
+impl<'a> Serialize for SendingLine<'a> {
+    fn serialize<S: Serializer>(&self, out: &mut S) -> Result<(), S::Error> {
+        write_members(
+            &[
+                ("from", Member::Number(self.from)),
+                ("until", Member::Number(self.until)),
+                ("message", Member::Text(self.message)),
+                ("round", Member::Number(u64::from(self.round))),
+                ("node", Member::Text(self.node)),
+                ("ready", Member::Number(self.ready)),
+                ("why", self.why.member()),
+            ],
+            out,
+        )
+    }
+}
+
+impl<'a> Described for ChainLine<'a> {}
+
+impl<'a> Serialize for ChainLine<'a> {
+    fn serialize<S: Serializer>(&self, out: &mut S) -> Result<(), S::Error> {
+        match self {
+            ChainLine::Run(line) => write_kind("run", line, out),
+            ChainLine::Sending(line) => write_kind("sending", line, out),
+        }
+    }
+}
+
 impl<'a> fmt::Display for SendingLine<'a> {
     fn fmt<W: fmt::Write>(&self, f: &mut fmt::Formatter<W>) -> fmt::Result {
         let (from, until) = (self.from, self.until);
         let (message, round, node, ready) = (self.message, self.round, self.node, self.ready);
-        write!(
+        tell(
             f,
-            "  {from} to {until}  {message} in round {round} of {node}"
+            "  {} to {}  {} in round {} of {}",
+            &[
+                Number(from),
+                Number(until),
+                Text(message),
+                Number(u64::from(round)),
+                Text(node),
+            ],
         )?;
         match self.why {
-            RoundCause::First => writeln!(f, ", the first round that begins at {ready} or later"),
+            RoundCause::First => tell(
+                f,
+                ", the first round that begins at {} or later\n",
+                &[Number(ready)],
+            ),
             RoundCause::Full(first) => {
                 let last = round.saturating_sub(1);
+                let (first, last) = (u64::from(first), u64::from(last));
                 if first == last {
-                    writeln!(
+                    tell(
                         f,
-                        ": round {first} begins at {ready} or later and is too full"
+                        ": round {} begins at {} or later and is too full\n",
+                        &[Number(first), Number(ready)],
                     )
                 } else {
-                    writeln!(
+                    tell(
                         f,
-                        ": rounds {first} to {last} begin at {ready} or later and are too full"
+                        ": rounds {} to {} begin at {} or later and are too full\n",
+                        &[Number(first), Number(last), Number(ready)],
                     )
                 }
             }
-            RoundCause::CouldGo(other) => writeln!(f, "; {message} could go in round {other}"),
+            RoundCause::CouldGo(other) => {
+                tell(
+                    f,
+                    "; {} could go in round {}\n",
+                    &[Text(message), Number(u64::from(other))],
+                )
+            }
         }
+    }
+}
+
+impl<'a> Described for PlanChain<'a> {}
+
+impl<'a> Serialize for PlanChain<'a> {
+    fn serialize<S: Serializer>(&self, out: &mut S) -> Result<(), S::Error> {
+        let members = [("delay", Member::Number(self.delay))];
+        write_members_and(&members, "lines", &self.lines, out)
     }
 }
 
 impl<'a> fmt::Display for PlanChain<'a> {
     fn fmt<W: fmt::Write>(&self, f: &mut fmt::Formatter<W>) -> fmt::Result {
         let (delay, lines) = (self.delay, self.lines.as_slice());
-        writeln!(
+        tell(
             f,
-            "Why it ends at {delay} and not earlier, with these starts and rounds:"
+            "Why it ends at {} and not earlier, with these starts and rounds:\n",
+            &[Number(delay)],
         )?;
         let count = lines.len();
         for k in 0..count {
             match &lines[count - 1 - k] {
-                ChainLine::Run(line) => write!(f, "{line}")?,
-                ChainLine::Sending(line) => write!(f, "{line}")?,
+                ChainLine::Run(line) => line.fmt(f)?,
+                ChainLine::Sending(line) => line.fmt(f)?,
             }
         }
         Ok(())

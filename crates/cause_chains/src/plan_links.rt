@@ -10,14 +10,13 @@ ghost use Rattle.cause_chains.specs.Runs.{HasCause};
 use crate::plan_rounds::round_cause;
 use crate::plan_starts::start_cause;
 use crate::runs::StartCause;
-use serde::Serialize;
+use sentences::Member;
 use std::alloc::Global;
 use tt_layout::Layout;
 use ttp_model::{Instance, MemoryFault, Plan, delay, end_of};
 
 /// What holds a message back, in its round.
-#[derive(Clone, Copy, Serialize)]
-#[serde(rename_all = "snake_case")]
+#[derive(Clone, Copy)]
 pub enum RoundCause {
     /// It is the first that begins once the message is ready.
     First,
@@ -25,6 +24,17 @@ pub enum RoundCause {
     Full(u32),
     /// Nothing: it could be sent in this round.
     CouldGo(u32),
+}
+
+impl RoundCause {
+    /// As a member of an object.
+    pub fn member(self) -> Member<'static> {
+        match self {
+            RoundCause::First => Member::Text("first"),
+            RoundCause::Full(round) => Member::NumberOf("full", u64::from(round)),
+            RoundCause::CouldGo(round) => Member::NumberOf("could_go", u64::from(round)),
+        }
+    }
 }
 
 /// A link of a chain, with its ticks.

@@ -3,7 +3,9 @@
 ghost use Rattle.std.specs.Prelude.{◌<◌, length};
 ghost use Rattle.cause_chains.specs.Runs.{HasCause, IsRunLine, IsStartReason};
 
-use serde::Serialize;
+use sentences::Word::{Number, Text};
+use sentences::{Member, tell, write_member, write_members_and, write_members_of};
+use serde::{Described, Serialize, Serializer};
 use std::fmt;
 use ttp_model::Instance;
 
@@ -23,8 +25,7 @@ pub enum StartCause {
 }
 
 /// Why a process starts at its tick.
-#[derive(Clone, Copy, Serialize)]
-#[serde(rename_all = "snake_case")]
+#[derive(Clone, Copy)]
 pub enum StartReason<'a> {
     /// It is released then.
     Release,
@@ -39,7 +40,7 @@ pub enum StartReason<'a> {
 }
 
 /// A process that runs; in ticks.
-#[derive(Clone, Copy, Serialize)]
+#[derive(Clone, Copy)]
 pub struct RunLine<'a> {
     pub from: u64,
     pub until: u64,
@@ -86,17 +87,70 @@ fn start_reason<'a>(instance: &'a Instance, cause: StartCause) -> StartReason<'a
     }
 }
 
+impl<'a> Described for StartReason<'a> {}
+
+impl<'a> Serialize for StartReason<'a> {
+    fn serialize<S: Serializer>(&self, out: &mut S) -> Result<(), S::Error> {
+        match *self {
+            StartReason::Release => write_member(Member::Text("release"), out),
+            StartReason::Link { before, link } => {
+                let link = Member::Number(u64::from(link));
+                write_members_of(
+                    "link",
+                    &[("before", Member::Text(before)), ("link", link)],
+                    out,
+                )
+            }
+            StartReason::Behind(process) => write_member(Member::TextOf("behind", process), out),
+            StartReason::Arrival(message) => write_member(Member::TextOf("arrival", message), out),
+            StartReason::CouldStart(time) => {
+                write_member(Member::NumberOf("could_start", time), out)
+            }
+        }
+    }
+}
+
+impl<'a> Described for RunLine<'a> {}
+
+impl<'a> Serialize for RunLine<'a> {
+    fn serialize<S: Serializer>(&self, out: &mut S) -> Result<(), S::Error> {
+        let members = [
+            ("from", Member::Number(self.from)),
+            ("until", Member::Number(self.until)),
+            ("process", Member::Text(self.process)),
+            ("node", Member::Text(self.node)),
+        ];
+        write_members_and(&members, "why", &self.why, out)
+    }
+}
+
 impl<'a> fmt::Display for RunLine<'a> {
     fn fmt<W: fmt::Write>(&self, f: &mut fmt::Formatter<W>) -> fmt::Result {
         let (from, until) = (self.from, self.until);
         let (process, node) = (self.process, self.node);
-        write!(f, "  {from} to {until}  {process} on {node}")?;
+        tell(
+            f,
+            "  {} to {}  {} on {}",
+            &[Number(from), Number(until), Text(process), Text(node)],
+        )?;
         match self.why {
-            StartReason::Release => writeln!(f, ", released at {from}"),
-            StartReason::Link { before, link } => writeln!(f, ", behind {before} by link {link}"),
-            StartReason::Behind(other) => writeln!(f, ", behind {other}"),
-            StartReason::Arrival(message) => writeln!(f, ", once message {message} is there"),
-            StartReason::CouldStart(time) => writeln!(f, "; {process} could start at {time}"),
+            StartReason::Release => tell(f, ", released at {}\n", &[Number(from)]),
+            StartReason::Link { before, link } => tell(
+                f,
+                ", behind {} by link {}\n",
+                &[Text(before), Number(u64::from(link))],
+            ),
+            StartReason::Behind(other) => tell(f, ", behind {}\n", &[Text(other)]),
+            StartReason::Arrival(message) => tell(
+                f,
+                ", once message {} is there\n",
+                &[Text(message)],
+            ),
+            StartReason::CouldStart(time) => tell(
+                f,
+                "; {} could start at {}\n",
+                &[Text(process), Number(time)],
+            ),
         }
     }
 }

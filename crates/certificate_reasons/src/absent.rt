@@ -7,7 +7,8 @@ ghost use Rattle.sought_plans.specs.Premises.{GoesTo};
 ghost use Rattle.tt_infer.specs.Table.{AreProcesses, HasHalf, IsLink, IsMessage, IsNode, IsProcess};
 ghost use Rattle.certificate_reasons.specs.Absent.{IsHalfLacking, IsPairLacking, IsLackingPart, IsLackingProcess, IsPartLacking, IsReceiverLacking, first_absent, part_count};
 
-use sentences::Counted;
+use sentences::Word::{Count, Number, Text};
+use sentences::{Counted, tell};
 use std::fmt;
 use ttp_model::{Instance, Part, Ring};
 
@@ -178,7 +179,11 @@ fn noun(part: Part) -> &'static str {
 impl fmt::Display for NoPart {
     fn fmt<W: fmt::Write>(&self, f: &mut fmt::Formatter<W>) -> fmt::Result {
         let (noun, index, count) = (noun(self.part), self.index, self.count);
-        write!(f, "There is no {noun} {index}: the instance has {count}.")
+        tell(
+            f,
+            "There is no {} {}: the instance has {}.",
+            &[Text(noun), Number(u64::from(index)), Number(count)],
+        )
     }
 }
 
@@ -187,10 +192,14 @@ impl<'a> fmt::Display for Absent<'a> {
         match *self {
             Absent::Part(lacking) => write!(f, "{lacking}"),
             Absent::Pair { process, other } => {
-                write!(f, "{process} and {other} aren't two processes of one node.")
+                tell(
+                    f,
+                    "{} and {} aren't two processes of one node.",
+                    &[Text(process), Text(other)],
+                )
             }
             Absent::Receiver { message, process } => {
-                write!(f, "{process} doesn't receive {message}.")
+                tell(f, "{} doesn't receive {}.", &[Text(process), Text(message)])
             }
             Absent::Half { channel, channels } => {
                 let channels = u64::from(channels);
@@ -199,9 +208,10 @@ impl<'a> fmt::Display for Absent<'a> {
                     one: "channel",
                     many: "channels",
                 };
-                write!(
+                tell(
                     f,
-                    "No frame has a half on channel {channel}: the cluster has {counted}."
+                    "No frame has a half on channel {}: the cluster has {}.",
+                    &[Number(u64::from(channel)), Count(counted)],
                 )
             }
         }

@@ -7,7 +7,8 @@ ghost use Rattle.certificate_reasons.specs.Branches.{IsCapacityCount, IsChildCou
 
 use crate::absent::{NoPart, no_part};
 use certificate::Branch;
-use sentences::Counted;
+use sentences::Word::{Count, Number, Text};
+use sentences::{Counted, tell};
 use std::fmt;
 use ttp_model::{Instance, Kind, Part};
 
@@ -139,21 +140,34 @@ impl<'a> fmt::Display for NotOpen<'a> {
     fn fmt<W: fmt::Write>(&self, f: &mut fmt::Formatter<W>) -> fmt::Result {
         match *self {
             NotOpen::Absent(lacking) => writeln!(f, "{lacking}"),
-            NotOpen::Placed => writeln!(f, "All nodes are placed above it."),
+            NotOpen::Placed => f.write_str("All nodes are placed above it.\n"),
             NotOpen::Capacity { node } => {
-                writeln!(f, "The capacity of {node} is decided above it.")
+                tell(
+                    f,
+                    "The capacity of {} is decided above it.\n",
+                    &[Text(node)],
+                )
             }
             NotOpen::Order { process, other } => {
-                write!(f, "The order of {process} and {other} is decided above it")?;
-                writeln!(f, ", or they aren't two processes of one node.")
+                tell(
+                    f,
+                    "The order of {} and {} is decided above it, or they aren't two processes of one node.\n",
+                    &[Text(process), Text(other)],
+                )
             }
             NotOpen::Round { message, round } => {
-                write!(f, "Round {round} isn't from the first and before the last")?;
-                writeln!(f, " of those that are left to {message}.")
+                tell(
+                    f,
+                    "Round {} isn't from the first and before the last of those that are left to {}.\n",
+                    &[Number(u64::from(round)), Text(message)],
+                )
             }
             NotOpen::Channel { message } => {
-                write!(f, "The channel of {message} is decided above it")?;
-                writeln!(f, ", or by the instance.")
+                tell(
+                    f,
+                    "The channel of {} is decided above it, or by the instance.\n",
+                    &[Text(message)],
+                )
             }
         }
     }
@@ -172,16 +186,22 @@ impl<'a> fmt::Display for ChildCount<'a> {
     fn fmt<W: fmt::Write>(&self, f: &mut fmt::Formatter<W>) -> fmt::Result {
         match *self {
             ChildCount::Places { children } => {
-                write!(f, "It has {}, and has to have one", counted(children))?;
-                writeln!(f, " for each node that isn't placed above it.")
+                tell(
+                    f,
+                    "It has {}, and has to have one for each node that isn't placed above it.\n",
+                    &[Count(counted(children))],
+                )
             }
             ChildCount::Capacities {
                 children,
                 node,
                 capacities,
             } => {
-                write!(f, "It has {}, and has to have one", counted(children))?;
-                writeln!(f, " for each capacity of {node}, which has {capacities}.")
+                tell(
+                    f,
+                    "It has {}, and has to have one for each capacity of {}, which has {}.\n",
+                    &[Count(counted(children)), Text(node), Number(capacities)],
+                )
             }
         }
     }

@@ -16,6 +16,8 @@ use crate::lines::{CertLine, cert_line};
 use crate::nodes::{FaultSpot, NodeReason, node_reason};
 use crate::whole::read_whole;
 use certificate::{Branch, Cert, Node};
+use sentences::Word::Number;
+use sentences::tell;
 use std::alloc::Global;
 use std::fmt;
 use tree_check::{CertFault, NodeFault, Walk};
@@ -193,9 +195,15 @@ pub fn cert_reason<'a>(
 impl fmt::Display for GreatLow {
     fn fmt<W: fmt::Write>(&self, f: &mut fmt::Formatter<W>) -> fmt::Result {
         let (low, horizon, most) = (self.low, self.horizon, self.most);
-        write!(f, "The bound is {low}, and the horizon is {horizon}")?;
-        write!(f, ": a bound of {most} says that there is no plan")?;
-        writeln!(f, ", and none says more.")
+        tell(
+            f,
+            "The bound is {}, and the horizon is {}: a bound of {} says that there is no plan, and none says more.\n",
+            &[
+                Number(u64::from(low)),
+                Number(u64::from(horizon)),
+                Number(u64::from(most)),
+            ],
+        )
     }
 }
 

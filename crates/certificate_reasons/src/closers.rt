@@ -5,7 +5,8 @@ ghost use Rattle.certificate_reasons.specs.Closers.{IsCycle, IsRounds, IsWindow}
 
 use crate::rings::names_of;
 use crate::times::least_end;
-use sentences::MOST_ITEMS;
+use sentences::Word::{Number, Text};
+use sentences::{MOST_ITEMS, tell};
 use std::alloc::Global;
 use std::fmt;
 use tt_infer::Facts;
@@ -73,11 +74,11 @@ fn write_names<W: fmt::Write>(f: &mut fmt::Formatter<W>, names: &[&str]) -> fmt:
     let count = names.len();
     for k in 0..count.min(MOST_ITEMS) {
         let name = names[k];
-        write!(f, " {name}")?;
+        tell(f, " {}", &[Text(name)])?;
     }
     if MOST_ITEMS < count {
         let more = count - MOST_ITEMS;
-        write!(f, " and {more} more")?;
+        tell(f, " and {} more", &[Number(more as u64)])?;
     }
     Ok(())
 }
@@ -89,25 +90,30 @@ impl<'a> fmt::Display for CloserReason<'a> {
                 process,
                 least,
                 most,
-            } => write!(
+            } => tell(
                 f,
-                "{process} ends at {least} or later, and at {most} or earlier"
+                "{} ends at {} or later, and at {} or earlier",
+                &[Text(process), Number(*least), Number(u64::from(*most))],
             ),
             CloserReason::Rounds {
                 message,
                 least,
                 late,
             } => {
-                write!(f, "{message} is sent in round {least} or later")?;
-                write!(f, ", and before round {late}")
+                tell(
+                    f,
+                    "{} is sent in round {} or later, and before round {}",
+                    &[
+                        Text(message),
+                        Number(u64::from(*least)),
+                        Number(u64::from(*late)),
+                    ],
+                )
             }
             CloserReason::Cycle { processes } => {
-                write!(f, "each of")?;
+                f.write_str("each of")?;
                 write_names(f, processes.as_slice())?;
-                write!(
-                    f,
-                    " waits for the one before it, and the first for the last"
-                )
+                f.write_str(" waits for the one before it, and the first for the last")
             }
         }
     }

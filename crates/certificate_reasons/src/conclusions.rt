@@ -2,6 +2,8 @@
 
 ghost use Rattle.certificate_reasons.specs.Conclusions.{IsConclusion};
 
+use sentences::Word::{Number, Text};
+use sentences::tell;
 use std::fmt;
 use tt_infer::Fact;
 use ttp_model::Instance;
@@ -81,32 +83,60 @@ impl<'a> fmt::Display for Conclusion<'a> {
                 process,
                 before,
                 after,
-            } => write!(f, "{process} starts at {after} or later (before: {before})"),
+            } => tell(
+                f,
+                "{} starts at {} or later (before: {})",
+                &[
+                    Text(process),
+                    Number(u64::from(after)),
+                    Number(u64::from(before)),
+                ],
+            ),
             Conclusion::EndsUntil {
                 process,
                 before,
                 after,
-            } => write!(f, "{process} ends at {after} or earlier (before: {before})"),
+            } => tell(
+                f,
+                "{} ends at {} or earlier (before: {})",
+                &[
+                    Text(process),
+                    Number(u64::from(after)),
+                    Number(u64::from(before)),
+                ],
+            ),
             Conclusion::SentFrom {
                 message,
                 before,
                 after,
             } => {
-                write!(f, "{message} is sent in round {after} or later")?;
-                write!(f, " (before: {before})")
+                tell(
+                    f,
+                    "{} is sent in round {} or later (before: {})",
+                    &[
+                        Text(message),
+                        Number(u64::from(after)),
+                        Number(u64::from(before)),
+                    ],
+                )
             }
             Conclusion::SentBefore {
                 message,
                 before,
                 after,
-            } => write!(
+            } => tell(
                 f,
-                "{message} is sent before round {after} (before: {before})"
+                "{} is sent before round {} (before: {})",
+                &[
+                    Text(message),
+                    Number(u64::from(after)),
+                    Number(u64::from(before)),
+                ],
             ),
             Conclusion::GoesFirst { process, other } => {
-                write!(f, "{process} ends before {other} starts")
+                tell(f, "{} ends before {} starts", &[Text(process), Text(other)])
             }
-            Conclusion::NoPlanLeft => write!(f, "no plan is left"),
+            Conclusion::NoPlanLeft => f.write_str("no plan is left"),
         }
     }
 }

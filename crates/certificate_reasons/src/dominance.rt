@@ -6,6 +6,8 @@ ghost use Rattle.certificate_reasons.specs.Dominance.{IsLate, IsMirror, IsSettle
 
 use crate::slots::start_least;
 use crate::times::most_ready;
+use sentences::Word::{Number, Text};
+use sentences::tell;
 use std::fmt;
 use tt_infer::Facts;
 use ttp_model::Step;
@@ -121,8 +123,11 @@ impl<'a> fmt::Display for DominanceReason<'a> {
     fn fmt<W: fmt::Write>(&self, f: &mut fmt::Formatter<W>) -> fmt::Result {
         match *self {
             DominanceReason::Settled { process, wcet } => {
-                write!(f, "{process} takes {wcet} and starts at once")?;
-                write!(f, " when all is over that it may wait for")
+                tell(
+                    f,
+                    "{} takes {} and starts at once when all is over that it may wait for",
+                    &[Text(process), Number(u64::from(wcet))],
+                )
             }
             DominanceReason::Late {
                 message,
@@ -131,20 +136,31 @@ impl<'a> fmt::Display for DominanceReason<'a> {
                 start,
                 ready,
             } => {
-                write!(
+                tell(
                     f,
-                    "{message} is sent behind round {round}, whose slot of {node}"
-                )?;
-                write!(f, " has room for it and begins at {start} or later")?;
-                write!(f, ", when it is copied out by {ready}")
+                    "{} is sent behind round {}, whose slot of {} has room for it and begins at {} or later, when it is copied out by {}",
+                    &[
+                        Text(message),
+                        Number(u64::from(round)),
+                        Text(node),
+                        Number(start),
+                        Number(ready),
+                    ],
+                )
             }
             DominanceReason::Silent { node, other } => {
-                write!(f, "{node} and {other} send nothing and may be exchanged")?;
-                write!(f, ", and {other} has the earlier slot")
+                tell(
+                    f,
+                    "{} and {} send nothing and may be exchanged, and {} has the earlier slot",
+                    &[Text(node), Text(other), Text(other)],
+                )
             }
             DominanceReason::Mirror { message } => {
-                write!(f, "{message} is the first of its slot on one channel alone")?;
-                write!(f, ", which is channel 1, and the channels may be exchanged")
+                tell(
+                    f,
+                    "{} is the first of its slot on one channel alone, which is channel 1, and the channels may be exchanged",
+                    &[Text(message)],
+                )
             }
         }
     }

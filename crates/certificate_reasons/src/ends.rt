@@ -6,7 +6,10 @@ ghost use Rattle.certificate_reasons.specs.Ends.{IsBeforeEnd, IsLinkEnd, IsMessa
 use crate::slots::start_most;
 use crate::starts::{UnderWay, under_way};
 use crate::times::most_start;
+use sentences::Word::{Number, Text};
+use sentences::tell;
 use std::fmt;
+use std::fmt::Display;
 use tt_infer::Facts;
 
 /// Why a process ends at some tick or earlier; in ticks.
@@ -129,11 +132,16 @@ impl<'a> fmt::Display for LatestEnd<'a> {
                 horizon,
                 goal,
             } => {
-                write!(
+                tell(
                     f,
-                    "{process} is due by {deadline}, the horizon is {horizon}"
-                )?;
-                write!(f, " and the delay is to be below {goal}")
+                    "{} is due by {}, the horizon is {} and the delay is to be below {}",
+                    &[
+                        Text(process),
+                        Number(u64::from(deadline)),
+                        Number(u64::from(horizon)),
+                        Number(u64::from(goal)),
+                    ],
+                )
             }
             LatestEnd::Link {
                 after,
@@ -141,22 +149,38 @@ impl<'a> fmt::Display for LatestEnd<'a> {
                 before,
                 link,
             } => {
-                write!(f, "{after} starts at {start} or earlier")?;
-                write!(f, " and waits for {before} by link {link}")
+                tell(
+                    f,
+                    "{} starts at {} or earlier and waits for {} by link {}",
+                    &[
+                        Text(after),
+                        Number(u64::from(start)),
+                        Text(before),
+                        Number(u64::from(link)),
+                    ],
+                )
             }
             LatestEnd::Before {
                 after,
                 start,
                 before,
-            } => write!(
+            } => tell(
                 f,
-                "{after} starts at {start} or earlier and {before} runs before it"
+                "{} starts at {} or earlier and {} runs before it",
+                &[Text(after), Number(u64::from(start)), Text(before)],
             ),
             LatestEnd::Message {
                 receiver,
                 start,
                 transfer,
-            } => write!(f, "{receiver} starts at {start} or earlier and {transfer}"),
+            } => {
+                tell(
+                    f,
+                    "{} starts at {} or earlier and ",
+                    &[Text(receiver), Number(u64::from(start))],
+                )?;
+                transfer.fmt(f)
+            }
             LatestEnd::Send {
                 message,
                 round,
@@ -164,9 +188,17 @@ impl<'a> fmt::Display for LatestEnd<'a> {
                 start,
                 copy_out,
             } => {
-                write!(f, "{message} is sent in round {round} or earlier")?;
-                write!(f, ", where the slot of {node} begins at {start} or earlier")?;
-                write!(f, ", and copying out takes {copy_out}")
+                tell(
+                    f,
+                    "{} is sent in round {} or earlier, where the slot of {} begins at {} or earlier, and copying out takes {}",
+                    &[
+                        Text(message),
+                        Number(u64::from(round)),
+                        Text(node),
+                        Number(start),
+                        Number(u64::from(copy_out)),
+                    ],
+                )
             }
         }
     }

@@ -10,7 +10,8 @@ ghost use Rattle.certificate_reasons.specs.Leaves.{AreFirstTold, IsLeafReason};
 
 use crate::dominance::is_dominance;
 use crate::steps::{ToldStep, told_step};
-use sentences::Counted;
+use sentences::Word::{Count, Number};
+use sentences::{Counted, tell};
 use std::alloc::Global;
 use std::fmt;
 use tt_choice::Choice;
@@ -90,12 +91,17 @@ pub fn leaf_reason<'a>(
 impl<'a> fmt::Display for LeafReason<'a> {
     fn fmt<W: fmt::Write>(&self, f: &mut fmt::Formatter<W>) -> fmt::Result {
         let (goal, steps) = (self.goal, self.steps.as_slice());
-        write!(f, "Suppose that a plan has a delay below {goal}")?;
+        tell(
+            f,
+            "Suppose that a plan has a delay below {}",
+            &[Number(u64::from(goal))],
+        )?;
         if self.settled {
-            write!(f, "; then one has that no small change improves")?;
-            writeln!(f, ". Step by step, of such a one:")?;
+            f.write_str(
+                "; then one has that no small change improves. Step by step, of such a one:\n",
+            )?;
         } else {
-            writeln!(f, ". Step by step:")?;
+            f.write_str(". Step by step:\n")?;
         }
         for k in 0..steps.len() {
             let step = &steps[k];
@@ -107,7 +113,7 @@ impl<'a> fmt::Display for LeafReason<'a> {
                 one: "step",
                 many: "steps",
             };
-            writeln!(f, "and {more} more")?;
+            tell(f, "and {} more\n", &[Count(more)])?;
         }
         Ok(())
     }

@@ -3,7 +3,8 @@
 ghost use Rattle.certificate_reasons.specs.Lines.{IsCertLine};
 
 use line_text::numbered_line;
-use sentences::Told;
+use sentences::Word::{Number, Piece};
+use sentences::tell;
 use std::fmt;
 
 /// A line of a certificate's text.
@@ -29,9 +30,9 @@ impl<'a> fmt::Display for CertLine<'a> {
     fn fmt<W: fmt::Write>(&self, f: &mut fmt::Formatter<W>) -> fmt::Result {
         let (number, bytes) = (self.number, self.text);
         if bytes.is_empty() {
-            writeln!(f, "Line {number} is empty.")
+            tell(f, "Line {} is empty.\n", &[Number(number)])
         } else {
-            writeln!(f, "Line {number} is: {}", Told { bytes })
+            tell(f, "Line {} is: {}\n", &[Number(number), Piece(bytes)])
         }
     }
 }

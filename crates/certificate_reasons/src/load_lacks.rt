@@ -9,7 +9,8 @@ ghost use Rattle.certificate_reasons.specs.LoadLacks.{IsFrameRoom, IsFramesRoom,
 use crate::loads::write_span;
 use crate::slots::cap_most;
 use crate::sums::{bytes_in_frames, bytes_on_channel, load_of};
-use sentences::{Bytes, Ticks};
+use sentences::Word::{Bytes, Number, Text, Ticks};
+use sentences::tell;
 use std::fmt;
 use tt_infer::Facts;
 
@@ -158,7 +159,15 @@ impl<'a> fmt::Display for LoadLack<'a> {
     fn fmt<W: fmt::Write>(&self, f: &mut fmt::Formatter<W>) -> fmt::Result {
         match *self {
             LoadLack::Turned { from, until, by } => {
-                write!(f, "{until} is before {from}, by {by}")
+                tell(
+                    f,
+                    "{} is before {}, by {}",
+                    &[
+                        Number(u64::from(until)),
+                        Number(u64::from(from)),
+                        Number(u64::from(by)),
+                    ],
+                )
             }
             LoadLack::Load {
                 node,
@@ -167,8 +176,17 @@ impl<'a> fmt::Display for LoadLack<'a> {
                 load,
                 ticks,
             } => {
-                write!(f, "what has to run on {node} from {from} to {until}")?;
-                write!(f, " takes {}, which isn't more than {ticks}", Ticks(load))
+                tell(
+                    f,
+                    "what has to run on {} from {} to {} takes {}, which isn't more than {}",
+                    &[
+                        Text(node),
+                        Number(u64::from(from)),
+                        Number(u64::from(until)),
+                        Ticks(load),
+                        Number(u64::from(ticks)),
+                    ],
+                )
             }
             LoadLack::Frame {
                 message,
@@ -176,8 +194,16 @@ impl<'a> fmt::Display for LoadLack<'a> {
                 node,
                 most,
             } => {
-                write!(f, "{message} has {}", Bytes(u64::from(bytes)))?;
-                write!(f, ", and a frame of {node} up to {most}")
+                tell(
+                    f,
+                    "{} has {}, and a frame of {} up to {}",
+                    &[
+                        Text(message),
+                        Bytes(u64::from(bytes)),
+                        Text(node),
+                        Number(u64::from(most)),
+                    ],
+                )
             }
             LoadLack::Frames {
                 node,
@@ -187,7 +213,11 @@ impl<'a> fmt::Display for LoadLack<'a> {
                 room,
             } => {
                 write_span(f, node, from, before)?;
-                write!(f, " has {}, and its frames carry {room}", Bytes(bytes))
+                tell(
+                    f,
+                    " has {}, and its frames carry {}",
+                    &[Bytes(bytes), Number(room)],
+                )
             }
             LoadLack::Halves {
                 channel,
@@ -198,8 +228,11 @@ impl<'a> fmt::Display for LoadLack<'a> {
                 room,
             } => {
                 write_span(f, node, from, before)?;
-                write!(f, " on channel {channel} has {}", Bytes(bytes))?;
-                write!(f, ", and its frames carry {room} there")
+                tell(
+                    f,
+                    " on channel {} has {}, and its frames carry {} there",
+                    &[Number(u64::from(channel)), Bytes(bytes), Number(room)],
+                )
             }
         }
     }

@@ -4,7 +4,8 @@ ghost use Rattle.std.specs.Prelude.{◌<◌, length};
 ghost use Rattle.certificate_reasons.specs.Loads.{IsFrame, IsFrames, IsHalves, IsLoad};
 
 use crate::slots::cap_most;
-use sentences::{Bytes, Counted, Ticks};
+use sentences::Word::{Bytes, Count, Number, Text, Ticks};
+use sentences::{Counted, tell};
 use std::fmt;
 use tt_infer::Facts;
 
@@ -110,9 +111,18 @@ impl<'a> fmt::Display for LoadReason<'a> {
                 until,
                 ticks,
             } => {
-                let (these, ticks) = (these(ticks), Ticks(u64::from(ticks)));
-                write!(f, "what has to run on {node} from {from} to {until}")?;
-                write!(f, " takes more than {these} {ticks}")
+                let these = these(ticks);
+                tell(
+                    f,
+                    "what has to run on {} from {} to {} takes more than {} {}",
+                    &[
+                        Text(node),
+                        Number(u64::from(from)),
+                        Number(u64::from(until)),
+                        Text(these),
+                        Ticks(u64::from(ticks)),
+                    ],
+                )
             }
             LoadReason::Frame {
                 message,
@@ -120,10 +130,15 @@ impl<'a> fmt::Display for LoadReason<'a> {
                 node,
                 most,
             } => {
-                let bytes = Bytes(u64::from(bytes));
-                write!(
+                tell(
                     f,
-                    "{message} has {bytes} and a frame of {node} at most {most}"
+                    "{} has {} and a frame of {} at most {}",
+                    &[
+                        Text(message),
+                        Bytes(u64::from(bytes)),
+                        Text(node),
+                        Number(u64::from(most)),
+                    ],
                 )
             }
             LoadReason::Frames {
@@ -137,8 +152,16 @@ impl<'a> fmt::Display for LoadReason<'a> {
                 let frames = counted(frames, "frame", "frames");
                 let (on, channels) = (on(channels), counted(channels, "channel", "channels"));
                 write_span(f, node, from, before)?;
-                write!(f, " has more bytes than {frames} of at most {most}")?;
-                write!(f, " {on} {channels}")
+                tell(
+                    f,
+                    " has more bytes than {} of at most {} {} {}",
+                    &[
+                        Count(frames),
+                        Number(u64::from(most)),
+                        Text(on),
+                        Count(channels),
+                    ],
+                )
             }
             LoadReason::Halves {
                 channel,
@@ -148,8 +171,11 @@ impl<'a> fmt::Display for LoadReason<'a> {
                 room,
             } => {
                 write_span(f, node, from, before)?;
-                write!(f, " on channel {channel} has more than the")?;
-                write!(f, " {} of its frames", Bytes(room))
+                tell(
+                    f,
+                    " on channel {} has more than the {} of its frames",
+                    &[Number(u64::from(channel)), Bytes(room)],
+                )
             }
         }
     }
@@ -162,8 +188,15 @@ pub fn write_span<W: fmt::Write>(
     from: u32,
     before: u32,
 ) -> fmt::Result {
-    write!(f, "what {node} has to send from round {from} on")?;
-    write!(f, " and before round {before}")
+    tell(
+        f,
+        "what {} has to send from round {} on and before round {}",
+        &[
+            Text(node),
+            Number(u64::from(from)),
+            Number(u64::from(before)),
+        ],
+    )
 }
 
 /// So many of something.

@@ -7,7 +7,8 @@ ghost use Rattle.certificate_reasons.specs.MoveLacks.{IsNotEarlier, IsNotMirrore
 use crate::slots::{cap_least, start_least};
 use crate::sums::bytes_in_frame;
 use crate::times::most_ready;
-use sentences::{Bytes, Ticks};
+use sentences::Word::{Bytes, Number, Text, Ticks};
+use sentences::tell;
 use std::fmt;
 use tt_infer::Facts;
 
@@ -122,8 +123,15 @@ impl<'a> fmt::Display for MoveLack<'a> {
                 round,
                 least,
             } => {
-                write!(f, "{message} may be sent in round {least}")?;
-                write!(f, ", and round {round} isn't before that")
+                tell(
+                    f,
+                    "{} may be sent in round {}, and round {} isn't before that",
+                    &[
+                        Text(message),
+                        Number(u64::from(least)),
+                        Number(u64::from(round)),
+                    ],
+                )
             }
             MoveLack::NotReady {
                 message,
@@ -133,12 +141,18 @@ impl<'a> fmt::Display for MoveLack<'a> {
                 start,
                 by,
             } => {
-                write!(f, "{message} is copied out by {ready}")?;
-                write!(
+                tell(
                     f,
-                    ", and {node}'s slot of round {round} begins at {start} or later"
-                )?;
-                write!(f, ": {} too late", Ticks(by))
+                    "{} is copied out by {}, and {}'s slot of round {} begins at {} or later: {} too late",
+                    &[
+                        Text(message),
+                        Number(ready),
+                        Text(node),
+                        Number(u64::from(round)),
+                        Number(start),
+                        Ticks(by),
+                    ],
+                )
             }
             MoveLack::NoRoom {
                 message,
@@ -148,20 +162,32 @@ impl<'a> fmt::Display for MoveLack<'a> {
                 most,
                 by,
             } => {
-                write!(f, "with {message} {node}'s frame of round {round}")?;
-                write!(f, " may have {}, and carries {most}", Bytes(bytes))?;
-                write!(f, " or more: {by} too many")
+                tell(
+                    f,
+                    "with {} {}'s frame of round {} may have {}, and carries {} or more: {} too many",
+                    &[
+                        Text(message),
+                        Text(node),
+                        Number(u64::from(round)),
+                        Bytes(bytes),
+                        Number(u64::from(most)),
+                        Number(by),
+                    ],
+                )
             }
             MoveLack::NotTurned { node, other } => {
-                write!(f, "{node} and {other} aren't silent twins")?;
-                write!(
+                tell(
                     f,
-                    " of which {other}, the later in the instance, has the earlier slot"
+                    "{} and {} aren't silent twins of which {}, the later in the instance, has the earlier slot",
+                    &[Text(node), Text(other), Text(other)],
                 )
             }
             MoveLack::NotMirrored { message } => {
-                write!(f, "{message} isn't known to be the first of its slot")?;
-                write!(f, " on one channel alone, and on channel 1")
+                tell(
+                    f,
+                    "{} isn't known to be the first of its slot on one channel alone, and on channel 1",
+                    &[Text(message)],
+                )
             }
         }
     }

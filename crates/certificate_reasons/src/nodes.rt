@@ -8,6 +8,8 @@ ghost use Rattle.certificate_reasons.specs.Nodes.{IsBranchReason, IsLeafReason, 
 use crate::branches::{ChildCount, NotOpen, child_count, not_open};
 use crate::refused::{RefusedStep, refused_step};
 use certificate::{Branch, Node};
+use sentences::Word::Number;
+use sentences::tell;
 use std::alloc::Global;
 use std::fmt;
 use tree_check::NodeFault;
@@ -112,7 +114,11 @@ pub fn node_reason<'a>(
 impl fmt::Display for LowGoal {
     fn fmt<W: fmt::Write>(&self, f: &mut fmt::Formatter<W>) -> fmt::Result {
         let (goal, low) = (self.goal, self.low);
-        writeln!(f, "The goal of the leaf is {goal}, and the bound is {low}.")
+        tell(
+            f,
+            "The goal of the leaf is {}, and the bound is {}.\n",
+            &[Number(u64::from(goal)), Number(u64::from(low))],
+        )
     }
 }
 
@@ -124,8 +130,9 @@ impl<'a> fmt::Display for NodeReason<'a> {
             NodeReason::LowGoal(reason) => write!(f, "{reason}"),
             NodeReason::RefusedStep(reason) => write!(f, "{reason}"),
             NodeReason::NotClosed => {
-                write!(f, "Its steps leave plans: the last one, and no other,")?;
-                writeln!(f, " has to be one of those that begin with x-.")
+                f.write_str(
+                    "Its steps leave plans: the last one, and no other, has to be one of those that begin with x-.\n",
+                )
             }
         }
     }

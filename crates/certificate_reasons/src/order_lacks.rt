@@ -7,6 +7,8 @@ ghost use Rattle.sought_plans.specs.Premises.{IsAhead, IsRing, least_end, wcet_o
 ghost use Rattle.certificate_reasons.specs.OrderLacks.{IsInTime, IsNotAhead, IsNotFirst, IsNotTwins, IsRingLack};
 
 use crate::times::least_end;
+use sentences::Word::{Number, Text};
+use sentences::tell;
 use std::fmt;
 use tt_infer::{Facts, leads};
 use ttp_model::Ring;
@@ -116,9 +118,10 @@ impl<'a> fmt::Display for OrderLack<'a> {
     fn fmt<W: fmt::Write>(&self, f: &mut fmt::Formatter<W>) -> fmt::Result {
         match *self {
             OrderLack::NotFirst { process, other } => {
-                write!(
+                tell(
                     f,
-                    "it isn't known that {process} ends before {other} starts"
+                    "it isn't known that {} ends before {} starts",
+                    &[Text(process), Text(other)],
                 )
             }
             OrderLack::InTime {
@@ -127,12 +130,23 @@ impl<'a> fmt::Display for OrderLack<'a> {
                 end,
                 most,
             } => {
-                write!(f, "behind {other} {process} ends at {end} or later")?;
-                write!(f, ", and it ends at {most} or earlier: that can be")
+                tell(
+                    f,
+                    "behind {} {} ends at {} or later, and it ends at {} or earlier: that can be",
+                    &[
+                        Text(other),
+                        Text(process),
+                        Number(end),
+                        Number(u64::from(most)),
+                    ],
+                )
             }
             OrderLack::NotTwins { process, other } => {
-                write!(f, "{process} and {other} aren't twins")?;
-                write!(f, " of which {process} is the first in the instance")
+                tell(
+                    f,
+                    "{} and {} aren't twins of which {} is the first in the instance",
+                    &[Text(process), Text(other), Text(process)],
+                )
             }
         }
     }

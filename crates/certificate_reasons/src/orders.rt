@@ -4,6 +4,8 @@ ghost use Rattle.std.specs.Prelude.{◌<◌, length};
 ghost use Rattle.certificate_reasons.specs.Orders.{IsTwinOrder, IsWindowOrder};
 
 use crate::times::least_end;
+use sentences::Word::{Number, Text};
+use sentences::tell;
 use std::fmt;
 use tt_infer::Facts;
 
@@ -64,14 +66,24 @@ impl<'a> fmt::Display for OrderReason<'a> {
                 wcet,
                 end,
             } => {
-                write!(f, "{other} ends at {other_end} or later")?;
-                write!(
+                tell(
                     f,
-                    ", and {process} takes {wcet} and ends at {end} or earlier"
+                    "{} ends at {} or later, and {} takes {} and ends at {} or earlier",
+                    &[
+                        Text(other),
+                        Number(other_end),
+                        Text(process),
+                        Number(u64::from(wcet)),
+                        Number(u64::from(end)),
+                    ],
                 )
             }
             OrderReason::Twins { process, other } => {
-                write!(f, "{process} and {other} are twins, which may be exchanged")
+                tell(
+                    f,
+                    "{} and {} are twins, which may be exchanged",
+                    &[Text(process), Text(other)],
+                )
             }
         }
     }

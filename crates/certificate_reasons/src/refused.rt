@@ -16,6 +16,7 @@ use crate::premises::{Lacking, lacking_of};
 use crate::rules::{Rule, rule_of};
 use std::alloc::Global;
 use std::fmt;
+use std::fmt::Display;
 use tt_choice::Choice;
 use tt_infer::{Facts, StepFault};
 use ttp_model::{Instance, MemoryFault, Step};
@@ -104,16 +105,17 @@ pub fn refused_step<'a>(
 
 impl<'a> fmt::Display for RefusedStep<'a> {
     fn fmt<W: fmt::Write>(&self, f: &mut fmt::Formatter<W>) -> fmt::Result {
-        let rule = self.rule;
-        writeln!(f, "{rule}")?;
-        write!(f, "It isn't lawful there: ")?;
+        self.rule.fmt(f)?;
+        f.write_str("\nIt isn't lawful there: ")?;
         match self.why {
-            Refusal::Closed => writeln!(f, "a step before it left no plan."),
+            Refusal::Closed => f.write_str("a step before it left no plan.\n"),
             Refusal::Absent(absent) => {
-                writeln!(f, "something that it names isn't there.\n{absent}")
+                f.write_str("something that it names isn't there.\n")?;
+                writeln!(f, "{absent}")
             }
             Refusal::Lacking(lacking) => {
-                writeln!(f, "what it asks for isn't known.\n  {lacking}")
+                f.write_str("what it asks for isn't known.\n  ")?;
+                writeln!(f, "{lacking}")
             }
         }
     }

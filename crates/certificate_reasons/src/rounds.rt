@@ -4,6 +4,8 @@ ghost use Rattle.std.specs.Prelude.{◌<◌, length};
 ghost use Rattle.certificate_reasons.specs.Rounds.{IsArriveRound, IsSendRound};
 
 use crate::times::least_ready;
+use sentences::Word::{Number, Text};
+use sentences::tell;
 use std::fmt;
 use tt_infer::Facts;
 
@@ -63,8 +65,11 @@ impl<'a> fmt::Display for RoundReason<'a> {
                 ready,
                 node,
             } => {
-                write!(f, "{message} is copied out at {ready} or later")?;
-                write!(f, " and earlier slots of {node} begin before that")
+                tell(
+                    f,
+                    "{} is copied out at {} or later and earlier slots of {} begin before that",
+                    &[Text(message), Number(ready), Text(node)],
+                )
             }
             RoundReason::Arrive {
                 receiver,
@@ -73,8 +78,17 @@ impl<'a> fmt::Display for RoundReason<'a> {
                 message,
                 copy_in,
             } => {
-                write!(f, "{receiver} takes {wcet} and ends at {end} or earlier")?;
-                write!(f, ", and copying {message} in takes {copy_in}")
+                tell(
+                    f,
+                    "{} takes {} and ends at {} or earlier, and copying {} in takes {}",
+                    &[
+                        Text(receiver),
+                        Number(u64::from(wcet)),
+                        Number(u64::from(end)),
+                        Text(message),
+                        Number(u64::from(copy_in)),
+                    ],
+                )
             }
         }
     }

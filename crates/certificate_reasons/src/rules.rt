@@ -3,6 +3,8 @@
 ghost use Rattle.std.specs.Prelude.{◌≡◌};
 ghost use Rattle.certificate_reasons.specs.Rules.{rule_of};
 
+use sentences::Word::Text;
+use sentences::tell;
 use std::fmt;
 use ttp_model::Step;
 
@@ -174,6 +176,6 @@ impl Rule {
 impl fmt::Display for Rule {
     fn fmt<W: fmt::Write>(&self, f: &mut fmt::Formatter<W>) -> fmt::Result {
         let (keyword, says) = self.says();
-        write!(f, "{keyword} says that {says}.")
+        tell(f, "{} says that {}.", &[Text(keyword), Text(says)])
     }
 }

@@ -6,7 +6,8 @@ ghost use Rattle.certificate_reasons.specs.Sizes.{IsTreeSize, has_keyword, keywo
 
 use crate::depth::levels;
 use certificate::{Branch, Cert, Node};
-use sentences::Counted;
+use sentences::Word::{Count, Number};
+use sentences::{Counted, tell};
 use std::alloc::Global;
 use std::fmt;
 use ttp_model::{Kind, MemoryFault};
@@ -114,14 +115,19 @@ impl fmt::Display for TreeSize {
         let leaves = counted(self.leaves, "leaf", "leaves");
         let steps = counted(self.steps, "step", "steps");
         let above = counted(self.above, "branch", "branches");
-        write!(
+        tell(
             f,
-            "Its tree has {place} of place, {cap} of cap, {pair} of pair"
-        )?;
-        write!(
-            f,
-            ", {round} of round and {chan} of chan, {leaves} with {steps}"
-        )?;
-        writeln!(f, ", and at most {above} above a leaf.")
+            "Its tree has {} of place, {} of cap, {} of pair, {} of round and {} of chan, {} with {}, and at most {} above a leaf.\n",
+            &[
+                Count(place),
+                Number(cap),
+                Number(pair),
+                Number(round),
+                Number(chan),
+                Count(leaves),
+                Count(steps),
+                Count(above),
+            ],
+        )
     }
 }

@@ -5,7 +5,10 @@ ghost use Rattle.certificate_reasons.specs.Starts.{IsArrivalStart, IsBehindStart
 
 use crate::slots::{dur_least, end_least};
 use crate::times::least_end;
+use sentences::Word::{Number, Text};
+use sentences::tell;
 use std::fmt;
+use std::fmt::Display;
 use tt_infer::Facts;
 
 /// How long a message is under way at least; in ticks.
@@ -143,10 +146,15 @@ impl<'a> fmt::Display for UnderWay<'a> {
     fn fmt<W: fmt::Write>(&self, f: &mut fmt::Formatter<W>) -> fmt::Result {
         let (message, copy_out) = (self.message, self.copy_out);
         let (duration, copy_in) = (self.duration, self.copy_in);
-        write!(f, "{message} takes {copy_out} to copy out")?;
-        write!(
+        tell(
             f,
-            ", {duration} or more on the bus and {copy_in} to copy in"
+            "{} takes {} to copy out, {} or more on the bus and {} to copy in",
+            &[
+                Text(message),
+                Number(u64::from(copy_out)),
+                Number(duration),
+                Number(u64::from(copy_in)),
+            ],
         )
     }
 }
@@ -155,7 +163,11 @@ impl<'a> fmt::Display for EarliestStart<'a> {
     fn fmt<W: fmt::Write>(&self, f: &mut fmt::Formatter<W>) -> fmt::Result {
         match *self {
             EarliestStart::Release { process, release } => {
-                write!(f, "{process} is released at {release}")
+                tell(
+                    f,
+                    "{} is released at {}",
+                    &[Text(process), Number(u64::from(release))],
+                )
             }
             EarliestStart::Link {
                 before,
@@ -163,11 +175,23 @@ impl<'a> fmt::Display for EarliestStart<'a> {
                 after,
                 link,
             } => {
-                write!(f, "{before} ends at {end} or later")?;
-                write!(f, " and {after} waits for it by link {link}")
+                tell(
+                    f,
+                    "{} ends at {} or later and {} waits for it by link {}",
+                    &[
+                        Text(before),
+                        Number(end),
+                        Text(after),
+                        Number(u64::from(link)),
+                    ],
+                )
             }
             EarliestStart::Behind { before, end, after } => {
-                write!(f, "{before} ends at {end} or later and runs before {after}")
+                tell(
+                    f,
+                    "{} ends at {} or later and runs before {}",
+                    &[Text(before), Number(end), Text(after)],
+                )
             }
             EarliestStart::Arrival {
                 message,
@@ -176,15 +200,30 @@ impl<'a> fmt::Display for EarliestStart<'a> {
                 end,
                 copy_in,
             } => {
-                write!(f, "{message} is sent in round {round} or later")?;
-                write!(f, ", where the slot of {node} ends at {end} or later")?;
-                write!(f, ", and copying in takes {copy_in}")
+                tell(
+                    f,
+                    "{} is sent in round {} or later, where the slot of {} ends at {} or later, and copying in takes {}",
+                    &[
+                        Text(message),
+                        Number(u64::from(round)),
+                        Text(node),
+                        Number(end),
+                        Number(u64::from(copy_in)),
+                    ],
+                )
             }
             EarliestStart::Message {
                 sender,
                 end,
                 transfer,
-            } => write!(f, "{sender} ends at {end} or later and {transfer}"),
+            } => {
+                tell(
+                    f,
+                    "{} ends at {} or later and ",
+                    &[Text(sender), Number(end)],
+                )?;
+                transfer.fmt(f)
+            }
         }
     }
 }

@@ -5,6 +5,8 @@ ghost use Rattle.certificate_reasons.specs.Texts.{IsTextReason};
 use crate::lines::{CertLine, cert_line};
 use crate::places::{LinePlace, awaited_at};
 use certificate::{LineFault, MOST_BRANCHES_ABOVE};
+use sentences::Word::Number;
+use sentences::tell;
 use std::fmt;
 
 /// The line of a text that is at fault, and what has to stand there.
@@ -29,53 +31,36 @@ pub fn text_reason(certificate: &[u8], line: u64, fault: LineFault) -> TextReaso
 
 /// Writes the forms of a node's line.
 fn write_node_forms<W: fmt::Write>(f: &mut fmt::Formatter<W>) -> fmt::Result {
-    writeln!(f, "It has to be a node:")?;
-    write!(
-        f,
-        "  place CHILDREN, cap NODE CHILDREN, pair PROCESS PROCESS"
+    f.write_str(
+        "It has to be a node:\n  place CHILDREN, cap NODE CHILDREN, pair PROCESS PROCESS, round MESSAGE ROUND, leaf GOAL STEPS,\n",
     )?;
-    writeln!(f, ", round MESSAGE ROUND, leaf GOAL STEPS,")?;
-    writeln!(f, "  or below ttcert 2 chan MESSAGE 3")
+    f.write_str("  or below ttcert 2 chan MESSAGE 3\n")
 }
 
 /// Writes the forms of a step's line.
 fn write_step_forms<W: fmt::Write>(f: &mut fmt::Formatter<W>) -> fmt::Result {
-    writeln!(f, "It has to be a step:")?;
-    write!(
-        f,
-        "  es-release PROCESS, es-link LINK, es-before PROCESS PROCESS"
+    f.write_str(
+        "It has to be a step:\n  es-release PROCESS, es-link LINK, es-before PROCESS PROCESS",
     )?;
-    writeln!(
-        f,
-        ", es-arrive MESSAGE PROCESS, es-message MESSAGE PROCESS, us-settled PROCESS,"
+    f.write_str(", es-arrive MESSAGE PROCESS, es-message MESSAGE PROCESS, us-settled PROCESS,\n")?;
+    f.write_str(
+        "  le-own PROCESS, le-link LINK, le-before PROCESS PROCESS, le-message MESSAGE PROCESS, le-send MESSAGE,\n",
     )?;
-    write!(
-        f,
-        "  le-own PROCESS, le-link LINK, le-before PROCESS PROCESS"
+    f.write_str(
+        "  lo-send MESSAGE, hi-arrive MESSAGE PROCESS, ord-window PROCESS PROCESS, ord-twin PROCESS PROCESS,\n",
     )?;
-    writeln!(f, ", le-message MESSAGE PROCESS, le-send MESSAGE,")?;
-    write!(f, "  lo-send MESSAGE, hi-arrive MESSAGE PROCESS")?;
-    writeln!(f, ", ord-window PROCESS PROCESS, ord-twin PROCESS PROCESS,")?;
-    write!(
-        f,
-        "  x-window PROCESS, x-round MESSAGE, x-cycle PROCESS PROCESS .."
+    f.write_str(
+        "  x-window PROCESS, x-round MESSAGE, x-cycle PROCESS PROCESS .., x-late MESSAGE ROUND, x-silent NODE NODE,\n",
     )?;
-    writeln!(f, ", x-late MESSAGE ROUND, x-silent NODE NODE,")?;
-    writeln!(
-        f,
-        "  x-load NODE FROM UNTIL, x-frame MESSAGE, x-frames NODE FROM UNTIL,"
-    )?;
-    writeln!(
-        f,
-        "  or below ttcert 2 x-channel CHANNEL NODE FROM UNTIL, x-mirror MESSAGE"
-    )
+    f.write_str("  x-load NODE FROM UNTIL, x-frame MESSAGE, x-frames NODE FROM UNTIL,\n")?;
+    f.write_str("  or below ttcert 2 x-channel CHANNEL NODE FROM UNTIL, x-mirror MESSAGE\n")
 }
 
 /// Writes what has to stand there.
 fn write_form<W: fmt::Write>(f: &mut fmt::Formatter<W>, place: LinePlace) -> fmt::Result {
     match place {
-        LinePlace::First => writeln!(f, "It has to be: ttcert 1, or ttcert 2"),
-        LinePlace::Low => writeln!(f, "It has to be: low TICKS"),
+        LinePlace::First => f.write_str("It has to be: ttcert 1, or ttcert 2\n"),
+        LinePlace::Low => f.write_str("It has to be: low TICKS\n"),
         LinePlace::Node => write_node_forms(f),
         LinePlace::Step => write_step_forms(f),
     }
@@ -91,22 +76,22 @@ impl<'a> fmt::Display for TextReason<'a> {
                 write_form(f, place)
             }
             LineFault::Number => {
-                writeln!(f, "A number of it is larger than 4294967295.")?;
+                f.write_str("A number of it is larger than 4294967295.\n")?;
                 write_form(f, place)
             }
             LineFault::Depth => {
-                writeln!(
+                tell(
                     f,
-                    "More than {MOST_BRANCHES_ABOVE} branches stand above it."
+                    "More than {} branches stand above it.\n",
+                    &[Number(MOST_BRANCHES_ABOVE as u64)],
                 )
             }
             LineFault::EarlyEnd => {
-                writeln!(f, "The text ends there, before the line's end.")?;
+                f.write_str("The text ends there, before the line's end.\n")?;
                 write_form(f, place)
             }
             LineFault::Trailing => {
-                write!(f, "The certificate ends before it")?;
-                writeln!(f, ", and nothing may stand behind that.")
+                f.write_str("The certificate ends before it, and nothing may stand behind that.\n")
             }
         }
     }

@@ -7,6 +7,8 @@ ghost use Rattle.sought_plans.specs.Premises.{least_end};
 ghost use Rattle.certificate_reasons.specs.TimeLacks.{IsNoRound, IsNoRoundTo, IsRoundLeft, IsWindowLeft};
 
 use crate::times::least_end;
+use sentences::Word::{Number, Text};
+use sentences::tell;
 use std::fmt;
 use tt_infer::{Facts, receives};
 
@@ -97,9 +99,10 @@ impl<'a> fmt::Display for TimeLack<'a> {
     fn fmt<W: fmt::Write>(&self, f: &mut fmt::Formatter<W>) -> fmt::Result {
         match *self {
             TimeLack::NoRound { message } => {
-                write!(
+                tell(
                     f,
-                    "{message} is sent before round 0: no round is left to it"
+                    "{} is sent before round 0: no round is left to it",
+                    &[Text(message)],
                 )
             }
             TimeLack::Window {
@@ -107,16 +110,26 @@ impl<'a> fmt::Display for TimeLack<'a> {
                 least,
                 most,
             } => {
-                write!(f, "{process} ends at {least} or later")?;
-                write!(f, ", and at {most} or earlier: that can be")
+                tell(
+                    f,
+                    "{} ends at {} or later, and at {} or earlier: that can be",
+                    &[Text(process), Number(least), Number(u64::from(most))],
+                )
             }
             TimeLack::Rounds {
                 message,
                 least,
                 late,
             } => {
-                write!(f, "{message} is sent in round {least} or later")?;
-                write!(f, ", and before round {late}: that can be")
+                tell(
+                    f,
+                    "{} is sent in round {} or later, and before round {}: that can be",
+                    &[
+                        Text(message),
+                        Number(u64::from(least)),
+                        Number(u64::from(late)),
+                    ],
+                )
             }
         }
     }

@@ -9,15 +9,15 @@ ghost use Rattle.instance_reasons.specs.Capacities.{IsCapacityFault, IsSmallAt, 
 
 use crate::parts::capacities_of;
 use crate::spots::{Spot, spot_at};
-use crate::written::write_spot;
 use instance_text::Parts;
-use serde::Serialize;
+use sentences::Word::Number;
+use sentences::{Member, tell, write_members, write_members_and};
+use serde::{Described, Serialize, Serializer};
 use std::fmt;
 use ttp_model::{MOST_BYTES, MOST_CAPACITIES, Place};
 
 /// What is wrong with a list of capacities, in bytes.
-#[derive(Clone, Copy, Serialize)]
-#[serde(tag = "case", rename_all = "snake_case")]
+#[derive(Clone, Copy)]
 pub enum CapacityFault {
     /// When there is none.
     Empty,
@@ -42,10 +42,56 @@ pub enum CapacityFault {
     },
 }
 
+impl Described for CapacityFault {}
+
+impl Serialize for CapacityFault {
+    fn serialize<S: Serializer>(&self, out: &mut S) -> Result<(), S::Error> {
+        match *self {
+            CapacityFault::Empty => write_members(&[("case", Member::Text("empty"))], out),
+            CapacityFault::TooMany { entries, most, by } => write_members(
+                &[
+                    ("case", Member::Text("too_many")),
+                    ("entries", Member::Number(entries)),
+                    ("most", Member::Number(most)),
+                    ("by", Member::Number(by)),
+                ],
+                out,
+            ),
+            CapacityFault::Falling {
+                index,
+                before,
+                capacity,
+            } => write_members(
+                &[
+                    ("case", Member::Text("falling")),
+                    ("index", Member::Number(index)),
+                    ("before", Member::Number(u64::from(before))),
+                    ("capacity", Member::Number(u64::from(capacity))),
+                ],
+                out,
+            ),
+            CapacityFault::TooLarge {
+                index,
+                capacity,
+                most,
+                by,
+            } => write_members(
+                &[
+                    ("case", Member::Text("too_large")),
+                    ("index", Member::Number(index)),
+                    ("capacity", Member::Number(u64::from(capacity))),
+                    ("most", Member::Number(u64::from(most))),
+                    ("by", Member::Number(u64::from(by))),
+                ],
+                out,
+            ),
+        }
+    }
+}
+
 /// A node whose capacities are not as they have to be.
-#[derive(Clone, Copy, Serialize)]
+#[derive(Clone, Copy)]
 pub struct WrongCapacities<'a> {
-    #[serde(serialize_with = "write_spot")]
     pub spot: Spot<'a>,
     pub fault: CapacityFault,
 }
@@ -136,31 +182,47 @@ fn first_large(capacities: &[u32]) -> usize
     unreachable!()
 }
 
+impl<'a> Described for WrongCapacities<'a> {}
+
+impl<'a> Serialize for WrongCapacities<'a> {
+    fn serialize<S: Serializer>(&self, out: &mut S) -> Result<(), S::Error> {
+        let members = [("spot", self.spot.member())];
+        write_members_and(&members, "fault", &self.fault, out)
+    }
+}
+
 impl<'a> fmt::Display for WrongCapacities<'a> {
     fn fmt<W: fmt::Write>(&self, f: &mut fmt::Formatter<W>) -> fmt::Result {
-        write!(f, "In {}: ", self.spot)?;
+        self.spot.tell_within(f)?;
         match self.fault {
-            CapacityFault::Empty => writeln!(f, "there is no capacity."),
-            CapacityFault::TooMany { entries, most, by } => writeln!(
+            CapacityFault::Empty => f.write_str("there is no capacity.\n"),
+            CapacityFault::TooMany { entries, most, by } => tell(
                 f,
-                "there are {entries} capacities, and at most {most} may be there: {by} too many."
+                "there are {} capacities, and at most {} may be there: {} too many.\n",
+                &[Number(entries), Number(most), Number(by)],
             ),
             CapacityFault::Falling {
                 before,
                 capacity,
                 ..
-            } => writeln!(
+            } => tell(
                 f,
-                "{capacity} stands behind {before}, and each capacity has to be larger than the one before."
+                "{} stands behind {}, and each capacity has to be larger than the one before.\n",
+                &[Number(u64::from(capacity)), Number(u64::from(before))],
             ),
             CapacityFault::TooLarge {
                 capacity,
                 most,
                 by,
                 ..
-            } => writeln!(
+            } => tell(
                 f,
-                "the capacity is {capacity}, and at most {most} may stand: {by} too much."
+                "the capacity is {}, and at most {} may stand: {} too much.\n",
+                &[
+                    Number(u64::from(capacity)),
+                    Number(u64::from(most)),
+                    Number(u64::from(by)),
+                ],
             ),
         }
     }

@@ -7,35 +7,43 @@ ghost use Rattle.instance_text.specs.Views.{instance_of};
 ghost use Rattle.instance_reasons.specs.Circles.{IsCircle, IsCircleStep, IsFirstLink, IsFirstMessage, IsJoin, MessageLeads, before_at};
 
 use crate::parts::process_name;
-use crate::written::write_name;
 use instance_text::Parts;
-use sentences::{MOST_ITEMS, Told};
-use serde::Serialize;
+use sentences::Word::{Number, Told};
+use sentences::{MOST_ITEMS, Member, tell, write_members, write_members_and};
+use serde::{Described, Serialize, Serializer};
 use std::alloc::{AllocError, Global};
 use std::fmt;
+use std::fmt::Display;
 
 /// By what a process waits for another one.
-#[derive(Clone, Copy, Serialize)]
-#[serde(rename_all = "snake_case")]
+#[derive(Clone, Copy)]
 pub enum Join<'a> {
     /// The first link between them, by its index from 0.
     Link(u64),
     /// The first message, where there is no link.
-    Message(#[serde(serialize_with = "write_name")] &'a str),
+    Message(&'a str),
+}
+
+impl<'a> Join<'a> {
+    /// As a member of an object.
+    fn member(self) -> Member<'a> {
+        match self {
+            Join::Link(link) => Member::NumberOf("link", link),
+            Join::Message(message) => Member::ToldOf("message", message),
+        }
+    }
 }
 
 /// A process with the one that it waits for.
-#[derive(Clone, Copy, Serialize)]
+#[derive(Clone, Copy)]
 pub struct CircleStep<'a> {
-    #[serde(serialize_with = "write_name")]
     pub process: &'a str,
-    #[serde(serialize_with = "write_name")]
     pub other: &'a str,
     pub by: Join<'a>,
 }
 
 /// Processes of which each waits for the one before it, and the first for the last.
-#[derive(Drop, Serialize)]
+#[derive(Drop)]
 pub struct Circle<'a> {
     pub steps: Vec<CircleStep<'a>>,
 }
@@ -140,40 +148,50 @@ fn message_leads(parts: &Parts, p: u32, q: u32, m: usize) -> bool
     message.sender == p && message.receivers.contains(q)
 }
 
+impl<'a> Described for CircleStep<'a> {}
+
+impl<'a> Serialize for CircleStep<'a> {
+    fn serialize<S: Serializer>(&self, out: &mut S) -> Result<(), S::Error> {
+        write_members(
+            &[
+                ("process", Member::Told(self.process)),
+                ("other", Member::Told(self.other)),
+                ("by", self.by.member()),
+            ],
+            out,
+        )
+    }
+}
+
 impl<'a> fmt::Display for CircleStep<'a> {
     fn fmt<W: fmt::Write>(&self, f: &mut fmt::Formatter<W>) -> fmt::Result {
-        let process = Told {
-            bytes: self.process.as_bytes(),
-        };
-        let other = Told {
-            bytes: self.other.as_bytes(),
-        };
-        write!(f, "  {process}, for {other}")?;
+        tell(f, "  {}, for {}", &[Told(self.process), Told(self.other)])?;
         match self.by {
-            Join::Link(link) => writeln!(f, " by link {link}"),
-            Join::Message(message) => {
-                let message = Told {
-                    bytes: message.as_bytes(),
-                };
-                writeln!(f, " by message {message}")
-            }
+            Join::Link(link) => tell(f, " by link {}\n", &[Number(link)]),
+            Join::Message(message) => tell(f, " by message {}\n", &[Told(message)]),
         }
+    }
+}
+
+impl<'a> Described for Circle<'a> {}
+
+impl<'a> Serialize for Circle<'a> {
+    fn serialize<S: Serializer>(&self, out: &mut S) -> Result<(), S::Error> {
+        write_members_and(&[], "steps", &self.steps, out)
     }
 }
 
 impl<'a> fmt::Display for Circle<'a> {
     fn fmt<W: fmt::Write>(&self, f: &mut fmt::Formatter<W>) -> fmt::Result {
-        writeln!(
-            f,
-            "Each of these waits for the one before it, and the first for the last:"
-        )?;
+        f.write_str("Each of these waits for the one before it, and the first for the last:\n")?;
         let steps = self.steps.as_slice();
         let count = steps.len();
         for k in 0..count.min(MOST_ITEMS) {
-            write!(f, "{}", steps[k])?;
+            steps[k].fmt(f)?;
         }
         if MOST_ITEMS < count {
-            writeln!(f, "  and {} more", count - MOST_ITEMS)?;
+            let more = count - MOST_ITEMS;
+            tell(f, "  and {} more\n", &[Number(more as u64)])?;
         }
         Ok(())
     }

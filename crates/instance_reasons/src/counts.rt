@@ -7,24 +7,22 @@ ghost use Rattle.instance_text.specs.Views.{instance_of};
 ghost use Rattle.instance_reasons.specs.Counts.{AreTooMany, IsNoReceiver, IsWrongCount, count_of, most_of};
 
 use crate::spots::{Spot, spot_at};
-use crate::written::{write_list, write_spot};
 use instance_text::Parts;
-use serde::Serialize;
+use sentences::Word::{Number, Text};
+use sentences::{Member, tell, write_members};
+use serde::{Described, Serialize, Serializer};
 use std::fmt;
 use ttp_model::{MOST_LINKS, MOST_MESSAGES, MOST_NODES, MOST_PROCESSES, Part, Place};
 
 /// A list of an instance that has too few entries or too many.
-#[derive(Clone, Copy, Serialize)]
-#[serde(tag = "case", rename_all = "snake_case")]
+#[derive(Clone, Copy)]
 pub enum WrongCount {
     /// When it has none, and has to have one.
     Empty {
-        #[serde(serialize_with = "write_list")]
         list: Part,
     },
     /// When it has more than there may be.
     TooMany {
-        #[serde(serialize_with = "write_list")]
         list: Part,
         entries: u64,
         most: u64,
@@ -93,12 +91,43 @@ pub fn entry_words(list: Part) -> (&'static str, &'static str) {
     }
 }
 
+impl Described for WrongCount {}
+
+impl Serialize for WrongCount {
+    fn serialize<S: Serializer>(&self, out: &mut S) -> Result<(), S::Error> {
+        match *self {
+            WrongCount::Empty { list } => write_members(
+                &[
+                    ("case", Member::Text("empty")),
+                    ("list", Member::Text(entry_words(list).0)),
+                ],
+                out,
+            ),
+            WrongCount::TooMany {
+                list,
+                entries,
+                most,
+                by,
+            } => write_members(
+                &[
+                    ("case", Member::Text("too_many")),
+                    ("list", Member::Text(entry_words(list).0)),
+                    ("entries", Member::Number(entries)),
+                    ("most", Member::Number(most)),
+                    ("by", Member::Number(by)),
+                ],
+                out,
+            ),
+        }
+    }
+}
+
 impl fmt::Display for WrongCount {
     fn fmt<W: fmt::Write>(&self, f: &mut fmt::Formatter<W>) -> fmt::Result {
         match *self {
             WrongCount::Empty { list } => {
                 let (one, _) = entry_words(list);
-                writeln!(f, "There is no {one}.")
+                tell(f, "There is no {}.\n", &[Text(one)])
             }
             WrongCount::TooMany {
                 list,
@@ -107,9 +136,10 @@ impl fmt::Display for WrongCount {
                 by,
             } => {
                 let (_, many) = entry_words(list);
-                writeln!(
+                tell(
                     f,
-                    "There are {entries} {many}, and at most {most} may be there: {by} too many."
+                    "There are {} {}, and at most {} may be there: {} too many.\n",
+                    &[Number(entries), Text(many), Number(most), Number(by)],
                 )
             }
         }
@@ -117,9 +147,8 @@ impl fmt::Display for WrongCount {
 }
 
 /// A message without a receiver.
-#[derive(Clone, Copy, Serialize)]
+#[derive(Clone, Copy)]
 pub struct NoReceiver<'a> {
-    #[serde(serialize_with = "write_spot")]
     pub spot: Spot<'a>,
 }
 
@@ -133,9 +162,17 @@ pub fn no_receiver(parts: &Parts, m: u32) -> NoReceiver<'_>
     }
 }
 
+impl<'a> Described for NoReceiver<'a> {}
+
+impl<'a> Serialize for NoReceiver<'a> {
+    fn serialize<S: Serializer>(&self, out: &mut S) -> Result<(), S::Error> {
+        write_members(&[("spot", self.spot.member())], out)
+    }
+}
+
 impl<'a> fmt::Display for NoReceiver<'a> {
     fn fmt<W: fmt::Write>(&self, f: &mut fmt::Formatter<W>) -> fmt::Result {
-        let spot = self.spot;
-        writeln!(f, "In {spot}: there is no receiver.")
+        self.spot.tell_within(f)?;
+        f.write_str("there is no receiver.\n")
     }
 }

@@ -4,9 +4,11 @@ ghost use Rattle.std.specs.Prelude.{◌≡◌, ◌<◌, IfOk, length};
 ghost use Rattle.sentences.specs.Lists.{AreTold};
 ghost use Rattle.instance_reasons.specs.Described.{AreSizes, IsLargeMessage, has_room, is_large, large_messages};
 
-use sentences::{Bytes, Counted};
+use sentences::Word::{Bytes, Count, Number, Text};
+use sentences::{Counted, tell};
 use std::alloc::{AllocError, Global};
 use std::fmt;
+use std::fmt::Display;
 use ttp_model::Instance;
 
 /// A message that fits into no capacity of its sender's node, so that no plan is valid; in bytes.
@@ -90,11 +92,15 @@ fn large_message(instance: &Instance, m: usize) -> LargeMessage<'_>
 impl<'a> fmt::Display for LargeMessage<'a> {
     fn fmt<W: fmt::Write>(&self, f: &mut fmt::Formatter<W>) -> fmt::Result {
         let (message, bytes, node) = (self.message, Bytes(u64::from(self.bytes)), self.node);
-        write!(f, "Message {message} has {bytes}, and {node} offers")?;
+        tell(
+            f,
+            "Message {} has {}, and {} offers",
+            &[Text(message), bytes, Text(node)],
+        )?;
         for capacity in self.offered {
-            write!(f, " {capacity}")?;
+            tell(f, " {}", &[Number(u64::from(*capacity))])?;
         }
-        writeln!(f, ": no plan is valid.")
+        f.write_str(": no plan is valid.\n")
     }
 }
 
@@ -120,9 +126,18 @@ impl<'a> fmt::Display for Sizes<'a> {
             one: "message",
             many: "messages",
         };
-        writeln!(f, "instance {nodes}, {processes}, {links}, {messages}")?;
+        tell(
+            f,
+            "instance {}, {}, {}, {}\n",
+            &[
+                Count(nodes),
+                Count(processes),
+                Count(links),
+                Count(messages),
+            ],
+        )?;
         for message in self.too_large.as_slice() {
-            write!(f, "{message}")?;
+            message.fmt(f)?;
         }
         Ok(())
     }

@@ -1,19 +1,19 @@
 //! Why are bytes no TOML?
 
-use crate::written::write_first_line;
 use line_text::{MOST_TOLD, cut};
-use sentences::Told;
-use serde::Serialize;
+use sentences::Word::Piece;
+use sentences::{Member, tell, write_members};
+use serde::{Described, Serialize, Serializer};
 use std::alloc::{AllocError, Global};
+use std::fmt::Display;
 use std::{fmt, str};
 
 /// How many lines are told of what the reader of TOML says.
 const MOST_LINES: usize = 60;
 
 /// What the reader of TOML says of bytes that are none, of which nothing is known.
-#[derive(Drop, Serialize)]
+#[derive(Drop)]
 pub struct NotToml {
-    #[serde(serialize_with = "write_first_line")]
     pub said: String,
 }
 
@@ -45,14 +45,30 @@ struct SaidLine<'a> {
 impl<'a> fmt::Display for SaidLine<'a> {
     fn fmt<W: fmt::Write>(&self, f: &mut fmt::Formatter<W>) -> fmt::Result {
         let (front, rest) = self.bytes.split_at(self.bytes.len().min(MOST_TOLD));
-        let (front, rest) = (Told { bytes: front }, Told { bytes: rest });
-        writeln!(f, "  {front}{rest}")
+        tell(f, "  {}{}\n", &[Piece(front), Piece(rest)])
+    }
+}
+
+/// The first line of a text.
+fn first_line(text: &str) -> &str {
+    let (line, _) = text.split_once('\n').unwrap_or((text, ""));
+    line
+}
+
+impl Described for NotToml {}
+
+impl Serialize for NotToml {
+    fn serialize<S: Serializer>(&self, out: &mut S) -> Result<(), S::Error> {
+        write_members(
+            &[("said", Member::Told(first_line(self.said.as_str())))],
+            out,
+        )
     }
 }
 
 impl fmt::Display for NotToml {
     fn fmt<W: fmt::Write>(&self, f: &mut fmt::Formatter<W>) -> fmt::Result {
-        writeln!(f, "The text is no TOML:")?;
+        f.write_str("The text is no TOML:\n")?;
         let mut rest = self.said.as_bytes();
         for _ in 0..MOST_LINES {
             match cut(b'\n', rest) {
@@ -60,10 +76,10 @@ impl fmt::Display for NotToml {
                     if rest.is_empty() {
                         return Ok(());
                     }
-                    return write!(f, "{}", SaidLine { bytes: rest });
+                    return SaidLine { bytes: rest }.fmt(f);
                 }
                 Some((line, behind)) => {
-                    write!(f, "{}", SaidLine { bytes: line })?;
+                    SaidLine { bytes: line }.fmt(f)?;
                     rest = behind;
                 }
             }

@@ -10,30 +10,19 @@ ghost use Rattle.instance_reasons.specs.Joins.{IsBothOfOne, IsNewAt, IsReceiverT
 use crate::parts::{
     link_at, message_name, node_of, place_name, process_name, receivers_of, sender_of,
 };
-use crate::written::write_name;
 use instance_text::Parts;
-use sentences::Told;
-use serde::Serialize;
+use sentences::Word::{Number, Told};
+use sentences::{Member, tell, write_members};
+use serde::{Described, Serialize, Serializer};
 use std::fmt;
 
-/// A piece of a text as it is told.
-fn told<'a>(name: &'a str) -> Told<'a> {
-    Told {
-        bytes: name.as_bytes(),
-    }
-}
-
 /// A message to a receiver that is on its sender's node, of several the first.
-#[derive(Clone, Copy, Serialize)]
+#[derive(Clone, Copy)]
 pub struct ReceiverThere<'a> {
-    #[serde(serialize_with = "write_name")]
     pub message: &'a str,
-    #[serde(serialize_with = "write_name")]
     pub sender: &'a str,
-    #[serde(serialize_with = "write_name")]
     pub receiver: &'a str,
     /// The node of both.
-    #[serde(serialize_with = "write_name")]
     pub node: &'a str,
 }
 
@@ -67,39 +56,53 @@ fn first_on(parts: &Parts, processes: &[u32], node: u32) -> usize
     unreachable!()
 }
 
+impl<'a> Described for ReceiverThere<'a> {}
+
+impl<'a> Serialize for ReceiverThere<'a> {
+    fn serialize<S: Serializer>(&self, out: &mut S) -> Result<(), S::Error> {
+        write_members(
+            &[
+                ("message", Member::Told(self.message)),
+                ("sender", Member::Told(self.sender)),
+                ("receiver", Member::Told(self.receiver)),
+                ("node", Member::Told(self.node)),
+            ],
+            out,
+        )
+    }
+}
+
 impl<'a> fmt::Display for ReceiverThere<'a> {
     fn fmt<W: fmt::Write>(&self, f: &mut fmt::Formatter<W>) -> fmt::Result {
-        let (message, node) = (told(self.message), told(self.node));
-        let (sender, receiver) = (told(self.sender), told(self.receiver));
-        write!(f, "Message {message} goes from {sender} to {receiver}")?;
-        writeln!(f, ", which are both on {node}: no message is needed there.")?;
-        writeln!(
+        let (message, node) = (self.message, self.node);
+        let (sender, receiver) = (self.sender, self.receiver);
+        tell(
             f,
-            "A link from {sender} to {receiver} says that the second waits for the first."
+            "Message {} goes from {} to {}, which are both on {}: no message is needed there.\n",
+            &[Told(message), Told(sender), Told(receiver), Told(node)],
+        )?;
+        tell(
+            f,
+            "A link from {} to {} says that the second waits for the first.\n",
+            &[Told(sender), Told(receiver)],
         )
     }
 }
 
 /// A link that isn't between two processes of one node.
-#[derive(Clone, Copy, Serialize)]
-#[serde(tag = "case", rename_all = "snake_case")]
+#[derive(Clone, Copy)]
 pub enum WrongLink<'a> {
     /// When it is from a process to itself.
     ToItself {
         link: u64,
-        #[serde(serialize_with = "write_name")]
         process: &'a str,
     },
     /// When it is between two nodes.
     Across {
         link: u64,
-        #[serde(serialize_with = "write_name")]
         before: &'a str,
-        #[serde(serialize_with = "write_name")]
         before_node: &'a str,
-        #[serde(serialize_with = "write_name")]
         after: &'a str,
-        #[serde(serialize_with = "write_name")]
         after_node: &'a str,
     },
 }
@@ -127,14 +130,48 @@ pub fn wrong_link(parts: &Parts, l: u32) -> WrongLink<'_>
     }
 }
 
+impl<'a> Described for WrongLink<'a> {}
+
+impl<'a> Serialize for WrongLink<'a> {
+    fn serialize<S: Serializer>(&self, out: &mut S) -> Result<(), S::Error> {
+        match *self {
+            WrongLink::ToItself { link, process } => write_members(
+                &[
+                    ("case", Member::Text("to_itself")),
+                    ("link", Member::Number(link)),
+                    ("process", Member::Told(process)),
+                ],
+                out,
+            ),
+            WrongLink::Across {
+                link,
+                before,
+                before_node,
+                after,
+                after_node,
+            } => write_members(
+                &[
+                    ("case", Member::Text("across")),
+                    ("link", Member::Number(link)),
+                    ("before", Member::Told(before)),
+                    ("before_node", Member::Told(before_node)),
+                    ("after", Member::Told(after)),
+                    ("after_node", Member::Told(after_node)),
+                ],
+                out,
+            ),
+        }
+    }
+}
+
 impl<'a> fmt::Display for WrongLink<'a> {
     fn fmt<W: fmt::Write>(&self, f: &mut fmt::Formatter<W>) -> fmt::Result {
         match *self {
             WrongLink::ToItself { link, process } => {
-                let process = told(process);
-                writeln!(
+                tell(
                     f,
-                    "Link {link} goes from {process} to itself, and no process waits for itself."
+                    "Link {} goes from {} to itself, and no process waits for itself.\n",
+                    &[Number(link), Told(process)],
                 )
             }
             WrongLink::Across {
@@ -144,12 +181,16 @@ impl<'a> fmt::Display for WrongLink<'a> {
                 after,
                 after_node,
             } => {
-                let (before, before_node) = (told(before), told(before_node));
-                let (after, after_node) = (told(after), told(after_node));
-                write!(f, "Link {link} goes from {before} on {before_node}")?;
-                writeln!(
+                tell(
                     f,
-                    " to {after} on {after_node}, and a link stays on one node: a message goes from node to node."
+                    "Link {} goes from {} on {} to {} on {}, and a link stays on one node: a message goes from node to node.\n",
+                    &[
+                        Number(link),
+                        Told(before),
+                        Told(before_node),
+                        Told(after),
+                        Told(after_node),
+                    ],
                 )
             }
         }
@@ -157,11 +198,9 @@ impl<'a> fmt::Display for WrongLink<'a> {
 }
 
 /// A message that names a receiver twice, of several the one whose second place is first.
-#[derive(Clone, Copy, Serialize)]
+#[derive(Clone, Copy)]
 pub struct ReceiverTwice<'a> {
-    #[serde(serialize_with = "write_name")]
     pub message: &'a str,
-    #[serde(serialize_with = "write_name")]
     pub receiver: &'a str,
 }
 
@@ -204,17 +243,34 @@ fn is_new_at(numbers: &[u32], k: usize) -> bool
     true
 }
 
+impl<'a> Described for ReceiverTwice<'a> {}
+
+impl<'a> Serialize for ReceiverTwice<'a> {
+    fn serialize<S: Serializer>(&self, out: &mut S) -> Result<(), S::Error> {
+        write_members(
+            &[
+                ("message", Member::Told(self.message)),
+                ("receiver", Member::Told(self.receiver)),
+            ],
+            out,
+        )
+    }
+}
+
 impl<'a> fmt::Display for ReceiverTwice<'a> {
     fn fmt<W: fmt::Write>(&self, f: &mut fmt::Formatter<W>) -> fmt::Result {
-        let (message, receiver) = (told(self.message), told(self.receiver));
-        writeln!(f, "Message {message} names {receiver} twice as a receiver.")
+        let (message, receiver) = (self.message, self.receiver);
+        tell(
+            f,
+            "Message {} names {} twice as a receiver.\n",
+            &[Told(message), Told(receiver)],
+        )
     }
 }
 
 /// A message that is to be on both channels of a cluster that has one.
-#[derive(Clone, Copy, Serialize)]
+#[derive(Clone, Copy)]
 pub struct BothOfOne<'a> {
-    #[serde(serialize_with = "write_name")]
     pub message: &'a str,
 }
 
@@ -228,12 +284,21 @@ pub fn both_of_one(parts: &Parts, m: u32) -> BothOfOne<'_>
     }
 }
 
+impl<'a> Described for BothOfOne<'a> {}
+
+impl<'a> Serialize for BothOfOne<'a> {
+    fn serialize<S: Serializer>(&self, out: &mut S) -> Result<(), S::Error> {
+        write_members(&[("message", Member::Told(self.message))], out)
+    }
+}
+
 impl<'a> fmt::Display for BothOfOne<'a> {
     fn fmt<W: fmt::Write>(&self, f: &mut fmt::Formatter<W>) -> fmt::Result {
-        let message = told(self.message);
-        writeln!(
+        let message = self.message;
+        tell(
             f,
-            "Message {message} is to be on both channels, and the cluster has one."
+            "Message {} is to be on both channels, and the cluster has one.\n",
+            &[Told(message)],
         )
     }
 }

@@ -23,7 +23,6 @@ mod tables;
 mod texts;
 mod times;
 mod values;
-mod written;
 
 pub use capacities::{CapacityFault, WrongCapacities};
 pub use circles::{Circle, CircleStep, Join};

@@ -8,18 +8,17 @@ ghost use Rattle.instance_reasons.specs.Malformed.{HasStanding, IsMalformedName,
 
 use crate::parts::name_at;
 use crate::spots::{Spot, spot_at};
-use crate::written::{write_byte, write_spot};
 use instance_text::Parts;
 use line_text::put_told;
-use sentences::Told;
-use serde::Serialize;
+use sentences::Word::{Number, Piece, Text};
+use sentences::{Member, tell, write_members, write_members_and};
+use serde::{Described, Serialize, Serializer};
 use std::alloc::{AllocError, Global};
 use std::fmt;
 use ttp_model::{MOST_NAME_BYTES, Place};
 
 /// What is wrong with the bytes of a name.
-#[derive(Drop, Serialize)]
-#[serde(tag = "case", rename_all = "snake_case")]
+#[derive(Drop)]
 pub enum NameFault {
     /// When it has none.
     Empty,
@@ -33,7 +32,6 @@ pub enum NameFault {
     WrongByte {
         /// Where, counted from 1.
         number: u64,
-        #[serde(serialize_with = "write_byte")]
         byte: u8,
         /// The name with `_` in place of each such byte.
         instead: String,
@@ -41,9 +39,8 @@ pub enum NameFault {
 }
 
 /// A name that isn't one.
-#[derive(Drop, Serialize)]
+#[derive(Drop)]
 pub struct MalformedName<'a> {
-    #[serde(serialize_with = "write_spot")]
     pub spot: Spot<'a>,
     pub fault: NameFault,
 }
@@ -154,14 +151,20 @@ fn mended(alloc: Global, name: &[u8]) -> Result<String, AllocError>
     Ok(text)
 }
 
-impl<'a> fmt::Display for MalformedName<'a> {
-    fn fmt<W: fmt::Write>(&self, f: &mut fmt::Formatter<W>) -> fmt::Result {
-        write!(f, "In {}: ", self.spot)?;
-        match &self.fault {
-            NameFault::Empty => writeln!(f, "the name is empty."),
-            NameFault::TooLong { bytes, most, by } => writeln!(
-                f,
-                "the name has {bytes} bytes, and at most {most} may stand: {by} too many."
+impl Described for NameFault {}
+
+impl Serialize for NameFault {
+    fn serialize<S: Serializer>(&self, out: &mut S) -> Result<(), S::Error> {
+        match self {
+            NameFault::Empty => write_members(&[("case", Member::Text("empty"))], out),
+            NameFault::TooLong { bytes, most, by } => write_members(
+                &[
+                    ("case", Member::Text("too_long")),
+                    ("bytes", Member::Number(*bytes)),
+                    ("most", Member::Number(*most)),
+                    ("by", Member::Number(*by)),
+                ],
+                out,
             ),
             NameFault::WrongByte {
                 number,
@@ -169,11 +172,46 @@ impl<'a> fmt::Display for MalformedName<'a> {
                 instead,
             } => {
                 let one = [*byte];
-                let (byte, instead) = (Told { bytes: &one }, instead.as_str());
-                write!(f, "byte {number} of the name is {byte}")?;
-                writeln!(
+                let members = [
+                    ("case", Member::Text("wrong_byte")),
+                    ("number", Member::Number(*number)),
+                    ("byte", Member::Piece(&one)),
+                ];
+                write_members_and(&members, "instead", instead, out)
+            }
+        }
+    }
+}
+
+impl<'a> Described for MalformedName<'a> {}
+
+impl<'a> Serialize for MalformedName<'a> {
+    fn serialize<S: Serializer>(&self, out: &mut S) -> Result<(), S::Error> {
+        let members = [("spot", self.spot.member())];
+        write_members_and(&members, "fault", &self.fault, out)
+    }
+}
+
+impl<'a> fmt::Display for MalformedName<'a> {
+    fn fmt<W: fmt::Write>(&self, f: &mut fmt::Formatter<W>) -> fmt::Result {
+        self.spot.tell_within(f)?;
+        match &self.fault {
+            NameFault::Empty => f.write_str("the name is empty.\n"),
+            NameFault::TooLong { bytes, most, by } => tell(
+                f,
+                "the name has {} bytes, and at most {} may stand: {} too many.\n",
+                &[Number(*bytes), Number(*most), Number(*by)],
+            ),
+            NameFault::WrongByte {
+                number,
+                byte,
+                instead,
+            } => {
+                let one = [*byte];
+                tell(
                     f,
-                    ", and a name has letters, digits and _, and begins with no digit: {instead} may stand."
+                    "byte {} of the name is {}, and a name has letters, digits and _, and begins with no digit: {} may stand.\n",
+                    &[Number(*number), Piece(&one), Text(instead.as_str())],
                 )
             }
         }

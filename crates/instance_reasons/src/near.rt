@@ -6,9 +6,8 @@ ghost use Rattle.instance_reasons.specs.Near.{first_of, is_near, is_short, neare
 ghost use Rattle.instance_reasons.specs.NearNames.{AreNear, IsNear};
 
 use crate::malformed::first_wrong;
-use crate::written::write_name;
-use sentences::Told;
-use serde::Serialize;
+use sentences::Word::Told;
+use sentences::{Member, tell};
 use std::alloc::{AllocError, Global};
 use std::fmt;
 use strsim::levenshtein;
@@ -66,13 +65,12 @@ pub fn nearest<'a>(
 }
 
 /// A name that is near another one.
-#[derive(Clone, Copy, Serialize)]
-#[serde(rename_all = "snake_case")]
+#[derive(Clone, Copy)]
 pub enum NearName<'a> {
     /// It may be meant.
-    Meant(#[serde(serialize_with = "write_name")] &'a str),
+    Meant(&'a str),
     /// It stands where a name has to, and a byte of it can't stand in one.
-    NoName(#[serde(serialize_with = "write_name")] &'a str),
+    NoName(&'a str),
 }
 
 /// The nearest of some names, where one is near.
@@ -96,23 +94,33 @@ fn judged(name: &str) -> NearName<'_>
     }
 }
 
+impl<'a> NearName<'a> {
+    /// As a member of an object.
+    pub fn member(self) -> Member<'a> {
+        match self {
+            NearName::Meant(name) => Member::ToldOf("meant", name),
+            NearName::NoName(name) => Member::ToldOf("no_name", name),
+        }
+    }
+}
+
+/// As a member of an object, where there is one.
+pub fn near_if_any<'a>(near: Option<NearName<'a>>) -> Member<'a> {
+    match near {
+        Some(near) => near.member(),
+        None => Member::Nothing,
+    }
+}
+
 impl<'a> fmt::Display for NearName<'a> {
     fn fmt<W: fmt::Write>(&self, f: &mut fmt::Formatter<W>) -> fmt::Result {
-        match self {
-            NearName::Meant(name) => {
-                let name = Told {
-                    bytes: name.as_bytes(),
-                };
-                write!(f, "Did you mean {name}?")
-            }
+        match *self {
+            NearName::Meant(name) => { tell(f, "Did you mean {}?", &[Told(name)]) }
             NearName::NoName(name) => {
-                let name = Told {
-                    bytes: name.as_bytes(),
-                };
-                write!(f, "One is named {name}")?;
-                write!(
+                tell(
                     f,
-                    ", and a name has letters, digits and _, and begins with no digit."
+                    "One is named {}, and a name has letters, digits and _, and begins with no digit.",
+                    &[Told(name)],
                 )
             }
         }

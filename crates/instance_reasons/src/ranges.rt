@@ -7,19 +7,19 @@ ghost use Rattle.instance_reasons.specs.Ranges.{IsOut, IsOutsideRange, Misses, c
 
 use crate::parts::{Times, bytes_of, times_of};
 use crate::spots::{Spot, spot_at};
-use crate::written::{write_key, write_spot};
 use instance_text::{Key, Parts};
-use serde::Serialize;
+use sentences::Word::{Number, Text};
+use sentences::{Member, tell, write_members};
+use serde::{Described, Serialize, Serializer};
 use std::fmt;
 use ttp_model::{
     Cluster, MOST_BUS_TICKS, MOST_BYTES, MOST_CHANNELS, MOST_HEAD, MOST_PER_BYTE, MOST_TICKS, Place,
 };
 
 /// A number that is outside its range.
-#[derive(Clone, Copy, Serialize)]
+#[derive(Clone, Copy)]
 pub struct Outside {
     /// What a text calls it.
-    #[serde(serialize_with = "write_key")]
     pub key: Key,
     pub value: u32,
     pub least: u32,
@@ -27,11 +27,9 @@ pub struct Outside {
 }
 
 /// A place where a number is outside its range, of several the first that a text states.
-#[derive(Clone, Copy, Serialize)]
+#[derive(Clone, Copy)]
 pub struct OutsideRange<'a> {
-    #[serde(serialize_with = "write_spot")]
     pub spot: Spot<'a>,
-    #[serde(flatten)]
     pub number: Outside,
     pub by: u32,
 }
@@ -130,6 +128,30 @@ fn outside_at(parts: &Parts, place: Place) -> Option<Outside>
     }
 }
 
+impl<'a> Described for OutsideRange<'a> {}
+
+impl<'a> Serialize for OutsideRange<'a> {
+    fn serialize<S: Serializer>(&self, out: &mut S) -> Result<(), S::Error> {
+        let Outside {
+            key,
+            value,
+            least,
+            most,
+        } = self.number;
+        write_members(
+            &[
+                ("spot", self.spot.member()),
+                ("key", Member::Text(key.text())),
+                ("value", Member::Number(u64::from(value))),
+                ("least", Member::Number(u64::from(least))),
+                ("most", Member::Number(u64::from(most))),
+                ("by", Member::Number(u64::from(self.by))),
+            ],
+            out,
+        )
+    }
+}
+
 impl<'a> fmt::Display for OutsideRange<'a> {
     fn fmt<W: fmt::Write>(&self, f: &mut fmt::Formatter<W>) -> fmt::Result {
         let (spot, by) = (self.spot, self.by);
@@ -140,10 +162,18 @@ impl<'a> fmt::Display for OutsideRange<'a> {
             most,
         } = self.number;
         let side = if value < least { "little" } else { "much" };
-        write!(f, "In {spot}: {key} is {value}")?;
-        writeln!(
+        spot.tell_within(f)?;
+        tell(
             f,
-            ", and from {least} to {most} may stand: {by} too {side}."
+            "{} is {}, and from {} to {} may stand: {} too {}.\n",
+            &[
+                Text(key.text()),
+                Number(u64::from(value)),
+                Number(u64::from(least)),
+                Number(u64::from(most)),
+                Number(u64::from(by)),
+                Text(side),
+            ],
         )
     }
 }

@@ -9,9 +9,10 @@ use crate::grammar::{NotToml, not_toml};
 use crate::rules::{RuleReason, rule_reason};
 use crate::texts::{TextReason, text_reason};
 use instance_text::{Parts, TextError, document, stated_parts};
-use serde::Serialize;
+use serde::{Described, Serialize, Serializer};
 use std::alloc::Global;
 use std::fmt;
+use std::fmt::Display;
 use toml::Table;
 use ttp_model::MemoryFault;
 
@@ -27,8 +28,7 @@ pub enum ReadAgain {
 }
 
 /// Why bytes state no instance that can be built.
-#[derive(Drop, Serialize)]
-#[serde(untagged)]
+#[derive(Drop)]
 pub enum InstanceReason<'a> {
     NotToml(&'a NotToml),
     Text(TextReason<'a>),
@@ -82,12 +82,24 @@ pub fn reason_of<'a>(
     }
 }
 
+impl<'a> Described for InstanceReason<'a> {}
+
+impl<'a> Serialize for InstanceReason<'a> {
+    fn serialize<S: Serializer>(&self, out: &mut S) -> Result<(), S::Error> {
+        match self {
+            InstanceReason::NotToml(reason) => reason.serialize(out),
+            InstanceReason::Text(reason) => reason.serialize(out),
+            InstanceReason::Rule(reason) => reason.serialize(out),
+        }
+    }
+}
+
 impl<'a> fmt::Display for InstanceReason<'a> {
     fn fmt<W: fmt::Write>(&self, f: &mut fmt::Formatter<W>) -> fmt::Result {
         match self {
-            InstanceReason::NotToml(reason) => write!(f, "{reason}"),
-            InstanceReason::Text(reason) => write!(f, "{reason}"),
-            InstanceReason::Rule(reason) => write!(f, "{reason}"),
+            InstanceReason::NotToml(reason) => reason.fmt(f),
+            InstanceReason::Text(reason) => reason.fmt(f),
+            InstanceReason::Rule(reason) => reason.fmt(f),
         }
     }
 }

@@ -18,17 +18,17 @@ use crate::ranges::{OutsideRange, outside_range};
 use crate::shared::{SharedName, shared_name};
 use crate::spots::{Spot, spot_at};
 use crate::times::{NoTime, ShortLead, ShortTrail, no_time, short_lead, short_trail};
-use crate::written::write_spot;
 use instance_text::Parts;
-use serde::Serialize;
+use sentences::{write_kind, write_members};
+use serde::{Described, Serialize, Serializer};
 use std::alloc::{AllocError, Global};
 use std::fmt;
+use std::fmt::Display;
 use ttp_model::{ModelError, Place};
 
 /// What names an index that isn't there, as no text can.
-#[derive(Clone, Copy, Serialize)]
+#[derive(Clone, Copy)]
 pub struct NoSuchIndex<'a> {
-    #[serde(serialize_with = "write_spot")]
     pub spot: Spot<'a>,
 }
 
@@ -41,16 +41,23 @@ fn no_such_index(parts: &Parts, place: Place) -> NoSuchIndex<'_>
     }
 }
 
+impl<'a> Described for NoSuchIndex<'a> {}
+
+impl<'a> Serialize for NoSuchIndex<'a> {
+    fn serialize<S: Serializer>(&self, out: &mut S) -> Result<(), S::Error> {
+        write_members(&[("spot", self.spot.member())], out)
+    }
+}
+
 impl<'a> fmt::Display for NoSuchIndex<'a> {
     fn fmt<W: fmt::Write>(&self, f: &mut fmt::Formatter<W>) -> fmt::Result {
-        let spot = self.spot;
-        writeln!(f, "In {spot}: what it names isn't there.")
+        self.spot.tell_within(f)?;
+        f.write_str("what it names isn't there.\n")
     }
 }
 
 /// What two things the rule compares that an instance breaks, with their names, and by how much it fails it.
-#[derive(Drop, Serialize)]
-#[serde(tag = "kind", rename_all = "snake_case")]
+#[derive(Drop)]
 pub enum RuleReason<'a> {
     WrongCount(WrongCount),
     NoReceiver(NoReceiver<'a>),
@@ -101,24 +108,48 @@ pub fn rule_reason<'a>(
     })
 }
 
+impl<'a> Described for RuleReason<'a> {}
+
+impl<'a> Serialize for RuleReason<'a> {
+    fn serialize<S: Serializer>(&self, out: &mut S) -> Result<(), S::Error> {
+        match self {
+            RuleReason::WrongCount(reason) => write_kind("wrong_count", reason, out),
+            RuleReason::NoReceiver(reason) => write_kind("no_receiver", reason, out),
+            RuleReason::MalformedName(reason) => write_kind("malformed_name", reason, out),
+            RuleReason::SharedName(reason) => write_kind("shared_name", reason, out),
+            RuleReason::NoSuchIndex(reason) => write_kind("no_such_index", reason, out),
+            RuleReason::OutsideRange(reason) => write_kind("outside_range", reason, out),
+            RuleReason::WrongCapacities(reason) => write_kind("wrong_capacities", reason, out),
+            RuleReason::ReceiverThere(reason) => write_kind("receiver_there", reason, out),
+            RuleReason::ShortLead(reason) => write_kind("short_lead", reason, out),
+            RuleReason::ShortTrail(reason) => write_kind("short_trail", reason, out),
+            RuleReason::NoTime(reason) => write_kind("no_time", reason, out),
+            RuleReason::WrongLink(reason) => write_kind("wrong_link", reason, out),
+            RuleReason::ReceiverTwice(reason) => write_kind("receiver_twice", reason, out),
+            RuleReason::Circle(reason) => write_kind("circle", reason, out),
+            RuleReason::BothOfOne(reason) => write_kind("both_of_one", reason, out),
+        }
+    }
+}
+
 impl<'a> fmt::Display for RuleReason<'a> {
     fn fmt<W: fmt::Write>(&self, f: &mut fmt::Formatter<W>) -> fmt::Result {
         match self {
-            RuleReason::WrongCount(reason) => write!(f, "{reason}"),
-            RuleReason::NoReceiver(reason) => write!(f, "{reason}"),
-            RuleReason::MalformedName(reason) => write!(f, "{reason}"),
-            RuleReason::SharedName(reason) => write!(f, "{reason}"),
-            RuleReason::NoSuchIndex(reason) => write!(f, "{reason}"),
-            RuleReason::OutsideRange(reason) => write!(f, "{reason}"),
-            RuleReason::WrongCapacities(reason) => write!(f, "{reason}"),
-            RuleReason::ReceiverThere(reason) => write!(f, "{reason}"),
-            RuleReason::ShortLead(reason) => write!(f, "{reason}"),
-            RuleReason::ShortTrail(reason) => write!(f, "{reason}"),
-            RuleReason::NoTime(reason) => write!(f, "{reason}"),
-            RuleReason::WrongLink(reason) => write!(f, "{reason}"),
-            RuleReason::ReceiverTwice(reason) => write!(f, "{reason}"),
-            RuleReason::Circle(reason) => write!(f, "{reason}"),
-            RuleReason::BothOfOne(reason) => write!(f, "{reason}"),
+            RuleReason::WrongCount(reason) => reason.fmt(f),
+            RuleReason::NoReceiver(reason) => reason.fmt(f),
+            RuleReason::MalformedName(reason) => reason.fmt(f),
+            RuleReason::SharedName(reason) => reason.fmt(f),
+            RuleReason::NoSuchIndex(reason) => reason.fmt(f),
+            RuleReason::OutsideRange(reason) => reason.fmt(f),
+            RuleReason::WrongCapacities(reason) => reason.fmt(f),
+            RuleReason::ReceiverThere(reason) => reason.fmt(f),
+            RuleReason::ShortLead(reason) => reason.fmt(f),
+            RuleReason::ShortTrail(reason) => reason.fmt(f),
+            RuleReason::NoTime(reason) => reason.fmt(f),
+            RuleReason::WrongLink(reason) => reason.fmt(f),
+            RuleReason::ReceiverTwice(reason) => reason.fmt(f),
+            RuleReason::Circle(reason) => reason.fmt(f),
+            RuleReason::BothOfOne(reason) => reason.fmt(f),
         }
     }
 }

@@ -8,19 +8,17 @@ ghost use Rattle.instance_reasons.specs.Shared.{AreShared, IsSharedName, name_in
 
 use crate::counts::entry_words;
 use crate::parts::{message_name, node_name, process_name};
-use crate::written::{write_list, write_name};
 use instance_text::Parts;
-use sentences::Told;
-use serde::Serialize;
+use sentences::Word::{Number, Text, Told};
+use sentences::{Member, tell, write_members};
+use serde::{Described, Serialize, Serializer};
 use std::fmt;
 use ttp_model::{Part, Place};
 
 /// A name that two entries of a list have.
-#[derive(Clone, Copy, Serialize)]
+#[derive(Clone, Copy)]
 pub struct SharedName<'a> {
-    #[serde(serialize_with = "write_name")]
     pub name: &'a str,
-    #[serde(serialize_with = "write_list")]
     pub list: Part,
     /// The first of its name, and the one that is refused, by their indices from 0.
     pub first: u32,
@@ -79,15 +77,35 @@ fn first_named(parts: &Parts, list: Part, second: u32) -> u32
     unreachable!()
 }
 
+impl<'a> Described for SharedName<'a> {}
+
+impl<'a> Serialize for SharedName<'a> {
+    fn serialize<S: Serializer>(&self, out: &mut S) -> Result<(), S::Error> {
+        write_members(
+            &[
+                ("name", Member::Told(self.name)),
+                ("list", Member::Text(entry_words(self.list).0)),
+                ("first", Member::Number(u64::from(self.first))),
+                ("second", Member::Number(u64::from(self.second))),
+            ],
+            out,
+        )
+    }
+}
+
 impl<'a> fmt::Display for SharedName<'a> {
     fn fmt<W: fmt::Write>(&self, f: &mut fmt::Formatter<W>) -> fmt::Result {
-        let name = Told {
-            bytes: self.name.as_bytes(),
-        };
         let ((one, _), first, second) = (entry_words(self.list), self.first, self.second);
-        writeln!(
+        tell(
             f,
-            "The name {name} is that of {one} {first} and of {one} {second}."
+            "The name {} is that of {} {} and of {} {}.\n",
+            &[
+                Told(self.name),
+                Text(one),
+                Number(u64::from(first)),
+                Text(one),
+                Number(u64::from(second)),
+            ],
         )
     }
 }

@@ -7,8 +7,10 @@ ghost use Rattle.instance_reasons.specs.Spots.{IsSpot, IsTextSpot, table_of, tex
 
 use crate::{parts, tables};
 use instance_text::{Parts, Place};
-use sentences::Told;
+use sentences::Word::{Number, Text, Told};
+use sentences::{Member, tell};
 use std::fmt;
+use std::fmt::Display;
 use toml::Table;
 
 /// A place with the name that stands there: an empty one where there is none.
@@ -63,23 +65,38 @@ fn text_name(table: &Table, place: Place) -> &str
     }
 }
 
+impl<'a> Spot<'a> {
+    /// As a member of an object: the name, where it has one.
+    pub fn member(self) -> Member<'a> {
+        if self.name.is_empty() {
+            Member::Nothing
+        } else {
+            Member::Told(self.name)
+        }
+    }
+
+    /// Tells that what follows is within it.
+    pub fn tell_within<W: fmt::Write>(self, f: &mut fmt::Formatter<W>) -> fmt::Result {
+        f.write_str("In ")?;
+        self.fmt(f)?;
+        f.write_str(": ")
+    }
+}
+
 impl<'a> fmt::Display for Spot<'a> {
     fn fmt<W: fmt::Write>(&self, f: &mut fmt::Formatter<W>) -> fmt::Result {
         let (kind, index) = match self.place {
-            Place::Top => return write!(f, "the top of the text"),
-            Place::Cluster => return write!(f, "the cluster"),
+            Place::Top => return f.write_str("the top of the text"),
+            Place::Cluster => return f.write_str("the cluster"),
             Place::Node(n) => ("node", n),
             Place::Process(p) => ("process", p),
             Place::Link(l) => ("link", l),
             Place::Message(m) => ("message", m),
         };
-        write!(f, "{kind} {index}")?;
+        tell(f, "{} {}", &[Text(kind), Number(index as u64)])?;
         if self.name.is_empty() {
             return Ok(());
         }
-        let name = Told {
-            bytes: self.name.as_bytes(),
-        };
-        write!(f, ", {name}")
+        tell(f, ", {}", &[Told(self.name)])
     }
 }

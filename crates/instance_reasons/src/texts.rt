@@ -13,28 +13,26 @@ ghost use Rattle.instance_reasons.specs.Values.{found_of, unfit_of};
 
 use crate::keys::unknown_key;
 use crate::known::{Known, key_names, list_named_at, names_under, unknown_name};
-use crate::near::{NearName, near_name, nearest};
+use crate::near::{NearName, near_if_any, near_name, nearest};
 use crate::spots::{Spot, text_spot};
 use crate::tables::value_at;
-use crate::values::{Found, Shape, found_of, unfit_of, wanted};
-use crate::written::{write_key, write_name_if_any, write_spot};
+use crate::values::{Found, Shape, found_if_any, found_of, unfit_of, wanted};
 use instance_text::{Key, Place, TextError, keys_at};
-use sentences::Told;
-use serde::Serialize;
+use sentences::Word::{Text, Told};
+use sentences::{Member, tell, told_if_any, write_kind, write_members, write_members_and};
+use serde::{Described, Serialize, Serializer};
 use std::alloc::{AllocError, Global};
 use std::fmt;
+use std::fmt::Display;
 use toml::Table;
 
 /// A key that can't stand where it does: of several the first in byte order.
-#[derive(Clone, Copy, Serialize)]
+#[derive(Clone, Copy)]
 pub struct OddKey<'a> {
-    #[serde(serialize_with = "write_spot")]
     pub spot: Spot<'a>,
     /// It is there where the table has such a fault.
-    #[serde(serialize_with = "write_name_if_any")]
     pub key: Option<&'a str>,
     /// The key that is nearest to it, where one is near.
-    #[serde(serialize_with = "write_name_if_any")]
     pub near: Option<&'a str>,
 }
 
@@ -67,44 +65,67 @@ fn near_key(
     nearest(alloc, word, names.as_slice())
 }
 
+impl<'a> Described for OddKey<'a> {}
+
+impl<'a> Serialize for OddKey<'a> {
+    fn serialize<S: Serializer>(&self, out: &mut S) -> Result<(), S::Error> {
+        write_members(
+            &[
+                ("spot", self.spot.member()),
+                ("key", told_if_any(self.key)),
+                ("near", told_if_any(self.near)),
+            ],
+            out,
+        )
+    }
+}
+
 impl<'a> fmt::Display for OddKey<'a> {
     fn fmt<W: fmt::Write>(&self, f: &mut fmt::Formatter<W>) -> fmt::Result {
         let (spot, Some(key)) = (self.spot, self.key) else {
             return Ok(());
         };
-        let key = Told {
-            bytes: key.as_bytes(),
-        };
-        write!(f, "In {spot}: the key {key} can't stand there.")?;
+        spot.tell_within(f)?;
+        tell(f, "the key {} can't stand there.", &[Told(key)])?;
         if let Some(near) = self.near {
-            write!(f, " {}", NearName::Meant(near))?;
+            tell(f, " Did you mean {}?", &[Told(near)])?;
         }
-        writeln!(f)
+        f.write_str("\n")
     }
 }
 
 /// A key that has to be there, and isn't.
-#[derive(Clone, Copy, Serialize)]
+#[derive(Clone, Copy)]
 pub struct MissingKey<'a> {
-    #[serde(serialize_with = "write_spot")]
     pub spot: Spot<'a>,
-    #[serde(serialize_with = "write_key")]
     pub key: Key,
+}
+
+impl<'a> Described for MissingKey<'a> {}
+
+impl<'a> Serialize for MissingKey<'a> {
+    fn serialize<S: Serializer>(&self, out: &mut S) -> Result<(), S::Error> {
+        write_members(
+            &[
+                ("spot", self.spot.member()),
+                ("key", Member::Text(self.key.text())),
+            ],
+            out,
+        )
+    }
 }
 
 impl<'a> fmt::Display for MissingKey<'a> {
     fn fmt<W: fmt::Write>(&self, f: &mut fmt::Formatter<W>) -> fmt::Result {
-        let (spot, key) = (self.spot, self.key);
-        writeln!(f, "In {spot}: the key {key} is missing.")
+        self.spot.tell_within(f)?;
+        tell(f, "the key {} is missing.\n", &[Text(self.key.text())])
     }
 }
 
 /// A value of another kind than has to stand at its key.
-#[derive(Clone, Copy, Serialize)]
+#[derive(Clone, Copy)]
 pub struct WrongKind<'a> {
-    #[serde(serialize_with = "write_spot")]
     pub spot: Spot<'a>,
-    #[serde(serialize_with = "write_key")]
     pub key: Key,
     /// What stands there, where the table has such a fault.
     pub found: Option<Found>,
@@ -131,25 +152,41 @@ fn found_at(table: &Table, place: Place, key: Key, wanted: Shape) -> Option<Foun
     Some(found_of(wanted, value_at(table, place, key)?))
 }
 
+impl<'a> Described for WrongKind<'a> {}
+
+impl<'a> Serialize for WrongKind<'a> {
+    fn serialize<S: Serializer>(&self, out: &mut S) -> Result<(), S::Error> {
+        write_members(
+            &[
+                ("spot", self.spot.member()),
+                ("key", Member::Text(self.key.text())),
+                ("found", found_if_any(self.found)),
+                ("wanted", self.wanted.member()),
+            ],
+            out,
+        )
+    }
+}
+
 impl<'a> fmt::Display for WrongKind<'a> {
     fn fmt<W: fmt::Write>(&self, f: &mut fmt::Formatter<W>) -> fmt::Result {
         let (spot, Some(found)) = (self.spot, self.found) else {
             return Ok(());
         };
-        let (key, wanted) = (self.key, self.wanted);
-        writeln!(
+        let (key, found, wanted) = (self.key.text(), found.words(), self.wanted.words());
+        spot.tell_within(f)?;
+        tell(
             f,
-            "In {spot}: {key} is {found}, where {wanted} has to stand."
+            "{} is {}, where {} has to stand.\n",
+            &[Text(key), Text(found), Text(wanted)],
         )
     }
 }
 
 /// A number that isn't from 0 to 4,294,967,295: of a list the first.
-#[derive(Clone, Copy, Serialize)]
+#[derive(Clone, Copy)]
 pub struct UnfitNumber<'a> {
-    #[serde(serialize_with = "write_spot")]
     pub spot: Spot<'a>,
-    #[serde(serialize_with = "write_key")]
     pub key: Key,
     /// It is there where the table has such a fault.
     pub number: Option<i64>,
@@ -173,31 +210,40 @@ fn number_at(table: &Table, place: Place, key: Key) -> Option<i64>
     unfit_of(value_at(table, place, key)?)
 }
 
+impl<'a> Described for UnfitNumber<'a> {}
+
+impl<'a> Serialize for UnfitNumber<'a> {
+    fn serialize<S: Serializer>(&self, out: &mut S) -> Result<(), S::Error> {
+        let members = [
+            ("spot", self.spot.member()),
+            ("key", Member::Text(self.key.text())),
+        ];
+        write_members_and(&members, "number", &self.number, out)
+    }
+}
+
 impl<'a> fmt::Display for UnfitNumber<'a> {
     fn fmt<W: fmt::Write>(&self, f: &mut fmt::Formatter<W>) -> fmt::Result {
         let (spot, Some(number)) = (self.spot, self.number) else {
             return Ok(());
         };
         let key = self.key;
+        spot.tell_within(f)?;
         writeln!(
             f,
-            "In {spot}: the number {number} of {key} isn't from 0 to 4294967295."
+            "the number {number} of {key} isn't from 0 to 4294967295."
         )
     }
 }
 
 /// A name that no node or process has: of a list the first in byte order.
-#[derive(Clone, Copy, Serialize)]
+#[derive(Clone, Copy)]
 pub struct OddName<'a> {
-    #[serde(serialize_with = "write_spot")]
     pub spot: Spot<'a>,
-    #[serde(serialize_with = "write_key")]
     pub key: Key,
     /// It is there where the table has such a fault.
-    #[serde(serialize_with = "write_name_if_any")]
     pub name: Option<&'a str>,
     /// The list in which it was looked for.
-    #[serde(serialize_with = "write_key")]
     pub list: Key,
     /// The name in that list that is nearest to it, where one is near.
     pub near: Option<NearName<'a>>,
@@ -257,29 +303,45 @@ fn name_of_none<'a>(
     Ok(unknown_name(&known, value))
 }
 
+impl<'a> Described for OddName<'a> {}
+
+impl<'a> Serialize for OddName<'a> {
+    fn serialize<S: Serializer>(&self, out: &mut S) -> Result<(), S::Error> {
+        write_members(
+            &[
+                ("spot", self.spot.member()),
+                ("key", Member::Text(self.key.text())),
+                ("name", told_if_any(self.name)),
+                ("list", Member::Text(self.list.text())),
+                ("near", near_if_any(self.near)),
+            ],
+            out,
+        )
+    }
+}
+
 impl<'a> fmt::Display for OddName<'a> {
     fn fmt<W: fmt::Write>(&self, f: &mut fmt::Formatter<W>) -> fmt::Result {
         let (spot, Some(name)) = (self.spot, self.name) else {
             return Ok(());
         };
-        let name = Told {
-            bytes: name.as_bytes(),
-        };
-        let (key, list) = (self.key, self.list);
-        write!(
+        let (key, list) = (self.key.text(), self.list.text());
+        spot.tell_within(f)?;
+        tell(
             f,
-            "In {spot}: {key} names {name}, and no {list} has that name."
+            "{} names {}, and no {} has that name.",
+            &[Text(key), Told(name), Text(list)],
         )?;
         if let Some(near) = self.near {
-            write!(f, " {near}")?;
+            f.write_str(" ")?;
+            near.fmt(f)?;
         }
-        writeln!(f)
+        f.write_str("\n")
     }
 }
 
 /// What is at fault in the tables of a text, and where.
-#[derive(Clone, Copy, Serialize)]
-#[serde(tag = "kind", rename_all = "snake_case")]
+#[derive(Clone, Copy)]
 pub enum TextReason<'a> {
     OddKey(OddKey<'a>),
     MissingKey(MissingKey<'a>),
@@ -316,14 +378,28 @@ pub fn text_reason<'a>(
     })
 }
 
+impl<'a> Described for TextReason<'a> {}
+
+impl<'a> Serialize for TextReason<'a> {
+    fn serialize<S: Serializer>(&self, out: &mut S) -> Result<(), S::Error> {
+        match self {
+            TextReason::OddKey(reason) => write_kind("odd_key", reason, out),
+            TextReason::MissingKey(reason) => write_kind("missing_key", reason, out),
+            TextReason::WrongKind(reason) => write_kind("wrong_kind", reason, out),
+            TextReason::UnfitNumber(reason) => write_kind("unfit_number", reason, out),
+            TextReason::OddName(reason) => write_kind("odd_name", reason, out),
+        }
+    }
+}
+
 impl<'a> fmt::Display for TextReason<'a> {
     fn fmt<W: fmt::Write>(&self, f: &mut fmt::Formatter<W>) -> fmt::Result {
         match self {
-            TextReason::OddKey(reason) => write!(f, "{reason}"),
-            TextReason::MissingKey(reason) => write!(f, "{reason}"),
-            TextReason::WrongKind(reason) => write!(f, "{reason}"),
-            TextReason::UnfitNumber(reason) => write!(f, "{reason}"),
-            TextReason::OddName(reason) => write!(f, "{reason}"),
+            TextReason::OddKey(reason) => reason.fmt(f),
+            TextReason::MissingKey(reason) => reason.fmt(f),
+            TextReason::WrongKind(reason) => reason.fmt(f),
+            TextReason::UnfitNumber(reason) => reason.fmt(f),
+            TextReason::OddName(reason) => reason.fmt(f),
         }
     }
 }

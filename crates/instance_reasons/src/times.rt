@@ -5,10 +5,10 @@ ghost use Rattle.instance_text.specs.Views.{instance_of};
 ghost use Rattle.instance_reasons.specs.Times.{IsNoTime, IsShortLead, IsShortTrail};
 
 use crate::parts::{process_name, times_of};
-use crate::written::write_name;
 use instance_text::Parts;
-use sentences::{Counted, Ticks, Told};
-use serde::Serialize;
+use sentences::Word::{Count, Number, Ticks, Told};
+use sentences::{Counted, Member, tell, write_members};
+use serde::{Described, Serialize, Serializer};
 use std::fmt;
 
 /// So many ticks, of which it is said that they are lacking.
@@ -21,7 +21,7 @@ fn lacking(ticks: u64) -> Counted {
 }
 
 /// A lead that is below twice the precision; in ticks.
-#[derive(Clone, Copy, Serialize)]
+#[derive(Clone, Copy)]
 pub struct ShortLead {
     pub lead: u32,
     pub precision: u32,
@@ -44,18 +44,35 @@ pub fn short_lead(parts: &Parts) -> ShortLead
     }
 }
 
+impl Described for ShortLead {}
+
+impl Serialize for ShortLead {
+    fn serialize<S: Serializer>(&self, out: &mut S) -> Result<(), S::Error> {
+        write_members(
+            &[
+                ("lead", Member::Number(u64::from(self.lead))),
+                ("precision", Member::Number(u64::from(self.precision))),
+                ("twice", Member::Number(self.twice)),
+                ("by", Member::Number(self.by)),
+            ],
+            out,
+        )
+    }
+}
+
 impl fmt::Display for ShortLead {
     fn fmt<W: fmt::Write>(&self, f: &mut fmt::Formatter<W>) -> fmt::Result {
         let (lead, twice, by) = (self.lead, self.twice, lacking(self.by));
-        writeln!(
+        tell(
             f,
-            "The lead is {lead}, and twice the precision is {twice}: {by}."
+            "The lead is {}, and twice the precision is {}: {}.\n",
+            &[Number(u64::from(lead)), Number(twice), Count(by)],
         )
     }
 }
 
 /// A trail that is below the precision; in ticks.
-#[derive(Clone, Copy, Serialize)]
+#[derive(Clone, Copy)]
 pub struct ShortTrail {
     pub trail: u32,
     pub precision: u32,
@@ -75,20 +92,39 @@ pub fn short_trail(parts: &Parts) -> ShortTrail
     }
 }
 
+impl Described for ShortTrail {}
+
+impl Serialize for ShortTrail {
+    fn serialize<S: Serializer>(&self, out: &mut S) -> Result<(), S::Error> {
+        write_members(
+            &[
+                ("trail", Member::Number(u64::from(self.trail))),
+                ("precision", Member::Number(u64::from(self.precision))),
+                ("by", Member::Number(u64::from(self.by))),
+            ],
+            out,
+        )
+    }
+}
+
 impl fmt::Display for ShortTrail {
     fn fmt<W: fmt::Write>(&self, f: &mut fmt::Formatter<W>) -> fmt::Result {
         let (trail, precision, by) = (self.trail, self.precision, lacking(u64::from(self.by)));
-        writeln!(
+        tell(
             f,
-            "The trail is {trail}, and the precision is {precision}: {by}."
+            "The trail is {}, and the precision is {}: {}.\n",
+            &[
+                Number(u64::from(trail)),
+                Number(u64::from(precision)),
+                Count(by),
+            ],
         )
     }
 }
 
 /// A process that ends after its deadline even where it starts at its release; in ticks.
-#[derive(Clone, Copy, Serialize)]
+#[derive(Clone, Copy)]
 pub struct NoTime<'a> {
-    #[serde(serialize_with = "write_name")]
     pub process: &'a str,
     pub release: u32,
     pub wcet: u32,
@@ -115,15 +151,39 @@ pub fn no_time(parts: &Parts, p: u32) -> NoTime<'_>
     }
 }
 
+impl<'a> Described for NoTime<'a> {}
+
+impl<'a> Serialize for NoTime<'a> {
+    fn serialize<S: Serializer>(&self, out: &mut S) -> Result<(), S::Error> {
+        write_members(
+            &[
+                ("process", Member::Told(self.process)),
+                ("release", Member::Number(u64::from(self.release))),
+                ("wcet", Member::Number(u64::from(self.wcet))),
+                ("end", Member::Number(self.end)),
+                ("deadline", Member::Number(u64::from(self.deadline))),
+                ("by", Member::Number(self.by)),
+            ],
+            out,
+        )
+    }
+}
+
 impl<'a> fmt::Display for NoTime<'a> {
     fn fmt<W: fmt::Write>(&self, f: &mut fmt::Formatter<W>) -> fmt::Result {
-        let process = Told {
-            bytes: self.process.as_bytes(),
-        };
         let (release, wcet, end) = (self.release, Ticks(u64::from(self.wcet)), self.end);
         let (deadline, by) = (self.deadline, lacking(self.by));
-        write!(f, "Process {process} is released at {release}")?;
-        writeln!(f, " and takes {wcet}, so it ends at {end} at the earliest.")?;
-        writeln!(f, "Its deadline is {deadline}: {by}.")
+        tell(
+            f,
+            "Process {} is released at {} and takes {}, so it ends at {} at the earliest.\nIts deadline is {}: {}.\n",
+            &[
+                Told(self.process),
+                Number(u64::from(release)),
+                wcet,
+                Number(end),
+                Number(u64::from(deadline)),
+                Count(by),
+            ],
+        )
     }
 }

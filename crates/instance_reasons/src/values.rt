@@ -5,13 +5,11 @@ ghost use Rattle.toml.specs.View.{view};
 ghost use Rattle.instance_reasons.specs.Values.{first_unfit, first_wrong, found_in, found_many, found_of, kind_of, may_stand, unfit, unfit_in, unfit_of, wanted, wanted_node, wanted_to};
 
 use instance_text::{Key, Place};
-use serde::Serialize;
-use std::fmt;
+use sentences::Member;
 use toml::Value;
 
 /// What a value of a text is.
-#[derive(Clone, Copy, PartialEq, Eq, Serialize)]
-#[serde(rename_all = "snake_case")]
+#[derive(Clone, Copy, PartialEq, Eq)]
 pub enum Kind {
     Text,
     Number,
@@ -23,8 +21,7 @@ pub enum Kind {
 }
 
 /// What has to stand at a key.
-#[derive(Clone, Copy, PartialEq, Eq, Serialize)]
-#[serde(rename_all = "snake_case")]
+#[derive(Clone, Copy, PartialEq, Eq)]
 pub enum Shape {
     /// A value of this kind.
     One(Kind),
@@ -33,8 +30,7 @@ pub enum Shape {
 }
 
 /// What stands there.
-#[derive(Clone, Copy, PartialEq, Eq, Serialize)]
-#[serde(rename_all = "snake_case")]
+#[derive(Clone, Copy, PartialEq, Eq)]
 pub enum Found {
     /// A value of this kind.
     Whole(Kind),
@@ -202,43 +198,89 @@ pub fn unfit_of(value: &Value) -> Option<i64>
     }
 }
 
-impl fmt::Display for Kind {
-    fn fmt<W: fmt::Write>(&self, f: &mut fmt::Formatter<W>) -> fmt::Result {
+impl Kind {
+    /// What it is called as a value.
+    fn name(self) -> &'static str {
         match self {
-            Kind::Text => write!(f, "a text"),
-            Kind::Number => write!(f, "a number"),
-            Kind::Fraction => write!(f, "a fraction"),
-            Kind::Truth => write!(f, "a truth value"),
-            Kind::Time => write!(f, "a time"),
-            Kind::Array => write!(f, "a list"),
-            Kind::Table => write!(f, "a table"),
+            Kind::Text => "text",
+            Kind::Number => "number",
+            Kind::Fraction => "fraction",
+            Kind::Truth => "truth",
+            Kind::Time => "time",
+            Kind::Array => "array",
+            Kind::Table => "table",
+        }
+    }
+
+    /// What it is called in a sentence.
+    fn words(self) -> &'static str {
+        match self {
+            Kind::Text => "a text",
+            Kind::Number => "a number",
+            Kind::Fraction => "a fraction",
+            Kind::Truth => "a truth value",
+            Kind::Time => "a time",
+            Kind::Array => "a list",
+            Kind::Table => "a table",
         }
     }
 }
 
-impl fmt::Display for Found {
-    fn fmt<W: fmt::Write>(&self, f: &mut fmt::Formatter<W>) -> fmt::Result {
+impl Found {
+    /// As a member of an object.
+    fn member(self) -> Member<'static> {
         match self {
-            Found::Whole(kind) => write!(f, "{kind}"),
-            Found::Item(kind) => write!(f, "a list with {kind}"),
+            Found::Whole(kind) => Member::TextOf("whole", kind.name()),
+            Found::Item(kind) => Member::TextOf("item", kind.name()),
+        }
+    }
+
+    /// What it is called in a sentence.
+    pub fn words(self) -> &'static str {
+        match self {
+            Found::Whole(kind) => kind.words(),
+            Found::Item(Kind::Text) => "a list with a text",
+            Found::Item(Kind::Number) => "a list with a number",
+            Found::Item(Kind::Fraction) => "a list with a fraction",
+            Found::Item(Kind::Truth) => "a list with a truth value",
+            Found::Item(Kind::Time) => "a list with a time",
+            Found::Item(Kind::Array) => "a list with a list",
+            Found::Item(Kind::Table) => "a list with a table",
         }
     }
 }
 
-impl fmt::Display for Shape {
-    fn fmt<W: fmt::Write>(&self, f: &mut fmt::Formatter<W>) -> fmt::Result {
+/// As a member of an object, where there is one.
+pub fn found_if_any(found: Option<Found>) -> Member<'static> {
+    match found {
+        Some(found) => found.member(),
+        None => Member::Nothing,
+    }
+}
+
+impl Shape {
+    /// As a member of an object.
+    pub fn member(self) -> Member<'static> {
         match self {
-            Shape::One(Kind::Text) => write!(f, "a name"),
-            Shape::One(Kind::Number) => write!(f, "a whole number"),
-            Shape::One(Kind::Truth) => write!(f, "true or false"),
-            Shape::One(kind) => write!(f, "{kind}"),
-            Shape::Many(Kind::Text) => write!(f, "a list of names"),
-            Shape::Many(Kind::Number) => write!(f, "a list of whole numbers"),
-            Shape::Many(Kind::Fraction) => write!(f, "a list of fractions"),
-            Shape::Many(Kind::Truth) => write!(f, "a list of truth values"),
-            Shape::Many(Kind::Time) => write!(f, "a list of times"),
-            Shape::Many(Kind::Array) => write!(f, "a list of lists"),
-            Shape::Many(Kind::Table) => write!(f, "a list of tables"),
+            Shape::One(kind) => Member::TextOf("one", kind.name()),
+            Shape::Many(kind) => Member::TextOf("many", kind.name()),
+        }
+    }
+
+    /// What it is called in a sentence.
+    pub fn words(self) -> &'static str {
+        match self {
+            Shape::One(Kind::Text) => "a name",
+            Shape::One(Kind::Number) => "a whole number",
+            Shape::One(Kind::Truth) => "true or false",
+            Shape::One(kind) => kind.words(),
+            Shape::Many(Kind::Text) => "a list of names",
+            Shape::Many(Kind::Number) => "a list of whole numbers",
+            Shape::Many(Kind::Fraction) => "a list of fractions",
+            Shape::Many(Kind::Truth) => "a list of truth values",
+            Shape::Many(Kind::Time) => "a list of times",
+            Shape::Many(Kind::Array) => "a list of lists",
+            Shape::Many(Kind::Table) => "a list of tables",
         }
     }
 }

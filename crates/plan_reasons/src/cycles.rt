@@ -3,13 +3,15 @@
 ghost use Rattle.ttp_model.specs.Plans.{IsValid};
 ghost use Rattle.plan_reasons.specs.Cycles.{IsCycle};
 
-use serde::Serialize;
+use sentences::Word::Number;
+use sentences::{Member, tell, write_members};
+use serde::{Described, Serialize, Serializer};
 use std::fmt;
 use tt_layout::{Layout, cycle_rounds};
 use ttp_model::{Instance, Plan};
 
 /// The cycle of a plan; in ticks.
-#[derive(Clone, Copy, Serialize)]
+#[derive(Clone, Copy)]
 pub struct Cycle {
     /// How long a round is.
     pub round: u64,
@@ -33,13 +35,28 @@ pub fn cycle_of(instance: &Instance, plan: &Plan) -> Cycle
     }
 }
 
+impl Described for Cycle {}
+
+impl Serialize for Cycle {
+    fn serialize<S: Serializer>(&self, out: &mut S) -> Result<(), S::Error> {
+        write_members(
+            &[
+                ("round", Member::Number(self.round)),
+                ("rounds", Member::Number(u64::from(self.rounds))),
+                ("next", Member::Number(self.next)),
+            ],
+            out,
+        )
+    }
+}
+
 impl fmt::Display for Cycle {
     fn fmt<W: fmt::Write>(&self, f: &mut fmt::Formatter<W>) -> fmt::Result {
         let (round, rounds, next) = (self.round, self.rounds, self.next);
-        write!(
+        tell(
             f,
-            "A round takes {round}, and the cycle has {rounds} of them"
-        )?;
-        writeln!(f, ": the next one may begin at {next}.")
+            "A round takes {}, and the cycle has {} of them: the next one may begin at {}.\n",
+            &[Number(round), Number(u64::from(rounds)), Number(next)],
+        )
     }
 }

@@ -7,13 +7,14 @@ ghost use Rattle.plan_reasons.specs.Delays.{IsOtherDelay};
 
 use crate::differences::{Difference, difference_of};
 use cause_chains::last_to_end;
-use sentences::Ticks;
-use serde::Serialize;
+use sentences::Word::{Number, Text, Ticks};
+use sentences::{Member, tell, write_members};
+use serde::{Described, Serialize, Serializer};
 use std::fmt;
 use ttp_model::{Instance, Plan, delay};
 
 /// A stated delay that isn't the plan's own; in ticks.
-#[derive(Clone, Copy, Serialize)]
+#[derive(Clone, Copy)]
 pub struct OtherDelay<'a> {
     pub stated: u32,
     pub own: u64,
@@ -40,15 +41,39 @@ pub fn other_delay<'a>(instance: &'a Instance, plan: &Plan, stated: u32) -> Othe
     }
 }
 
+impl<'a> Described for OtherDelay<'a> {}
+
+impl<'a> Serialize for OtherDelay<'a> {
+    fn serialize<S: Serializer>(&self, out: &mut S) -> Result<(), S::Error> {
+        write_members(
+            &[
+                ("stated", Member::Number(u64::from(self.stated))),
+                ("own", Member::Number(self.own)),
+                ("process", Member::Text(self.process)),
+                ("node", Member::Text(self.node)),
+                ("by", self.by.member()),
+            ],
+            out,
+        )
+    }
+}
+
 impl<'a> fmt::Display for OtherDelay<'a> {
     fn fmt<W: fmt::Write>(&self, f: &mut fmt::Formatter<W>) -> fmt::Result {
         let (stated, own) = (self.stated, self.own);
         let (process, node) = (self.process, self.node);
-        let (by, side) = (Ticks(self.by.by()), self.by.side());
-        writeln!(f, "The plan says that its delay is {stated}.")?;
-        writeln!(
+        let (by, side) = (self.by.by(), self.by.side());
+        tell(
             f,
-            "  it is {own}, as {process} on {node} ends then: {by} {side}"
+            "The plan says that its delay is {}.\n  it is {}, as {} on {} ends then: {} {}\n",
+            &[
+                Number(u64::from(stated)),
+                Number(own),
+                Text(process),
+                Text(node),
+                Ticks(by),
+                Text(side),
+            ],
         )
     }
 }

@@ -3,12 +3,12 @@
 ghost use Rattle.std.specs.Prelude.{◌≢◌};
 ghost use Rattle.plan_reasons.specs.Differences.{IsDifference};
 
-use serde::Serialize;
+use sentences::Word::{Number, Text};
+use sentences::{Member, tell};
 use std::fmt;
 
 /// By how much a number is too large or too small: by 1 at least.
-#[derive(Clone, Copy, Serialize)]
-#[serde(rename_all = "snake_case")]
+#[derive(Clone, Copy)]
 pub enum Difference {
     TooMany(u64),
     TooFew(u64),
@@ -27,6 +27,14 @@ pub fn difference_of(number: u64, right: u64) -> Difference
 }
 
 impl Difference {
+    /// As a member of an object.
+    pub fn member(self) -> Member<'static> {
+        match self {
+            Difference::TooMany(by) => Member::NumberOf("too_many", by),
+            Difference::TooFew(by) => Member::NumberOf("too_few", by),
+        }
+    }
+
     /// The difference alone.
     pub fn by(self) -> u64 {
         match self {
@@ -45,6 +53,6 @@ impl Difference {
 
 impl fmt::Display for Difference {
     fn fmt<W: fmt::Write>(&self, f: &mut fmt::Formatter<W>) -> fmt::Result {
-        write!(f, "{} {}", self.by(), self.side())
+        tell(f, "{} {}", &[Number(self.by()), Text(self.side())])
     }
 }

@@ -5,13 +5,13 @@ ghost use Rattle.plan_format.specs.Channels.{has_two_channels};
 ghost use Rattle.plan_format.specs.Reading.{end_line};
 ghost use Rattle.plan_reasons.specs.Forms.{IsFormOf};
 
-use serde::Serialize;
+use sentences::Word::{Number, Text};
+use sentences::{Member, tell};
 use std::fmt;
 use ttp_model::Instance;
 
 /// What has to stand in a line.
-#[derive(Clone, Copy, Serialize)]
-#[serde(rename_all = "snake_case")]
+#[derive(Clone, Copy)]
 pub enum Form<'a> {
     /// The format's name with this version.
     Version(u32),
@@ -98,17 +98,33 @@ pub fn last_line(instance: &Instance) -> u32
     (3 + nodes + processes + messages + channel_lines(instance)) as u32
 }
 
+impl<'a> Form<'a> {
+    /// As a member of an object.
+    pub fn member(self) -> Member<'a> {
+        match self {
+            Form::Version(version) => Member::NumberOf("version", u64::from(version)),
+            Form::Delay => Member::Text("delay"),
+            Form::Order => Member::Text("order"),
+            Form::Capacity(name) => Member::TextOf("capacity", name),
+            Form::Start(name) => Member::TextOf("start", name),
+            Form::Round(name) => Member::TextOf("round", name),
+            Form::Channel(name) => Member::TextOf("channel", name),
+            Form::End => Member::Text("end"),
+        }
+    }
+}
+
 impl<'a> fmt::Display for Form<'a> {
     fn fmt<W: fmt::Write>(&self, f: &mut fmt::Formatter<W>) -> fmt::Result {
         match *self {
-            Form::Version(version) => write!(f, "ttplan {version}"),
-            Form::Delay => write!(f, "delay TICKS"),
-            Form::Order => write!(f, "order and the name of each node, once"),
-            Form::Capacity(name) => write!(f, "cap {name} BYTES"),
-            Form::Start(name) => write!(f, "start {name} TICKS"),
-            Form::Round(name) => write!(f, "round {name} ROUND"),
-            Form::Channel(name) => write!(f, "chan {name} 0, 1 or both"),
-            Form::End => write!(f, "the end of the text"),
+            Form::Version(version) => tell(f, "ttplan {}", &[Number(u64::from(version))]),
+            Form::Delay => f.write_str("delay TICKS"),
+            Form::Order => f.write_str("order and the name of each node, once"),
+            Form::Capacity(name) => tell(f, "cap {} BYTES", &[Text(name)]),
+            Form::Start(name) => tell(f, "start {} TICKS", &[Text(name)]),
+            Form::Round(name) => tell(f, "round {} ROUND", &[Text(name)]),
+            Form::Channel(name) => tell(f, "chan {} 0, 1 or both", &[Text(name)]),
+            Form::End => f.write_str("the end of the text"),
         }
     }
 }

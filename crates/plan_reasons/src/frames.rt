@@ -6,28 +6,44 @@ ghost use Rattle.sentences.specs.Lists.{AreTold};
 ghost use Rattle.plan_reasons.specs.Frames.{IsFrameMessage, IsOverfull, channel_number};
 
 use plan_facts::{load_on, messages_on};
-use sentences::{Bytes, Listed};
-use serde::Serialize;
+use sentences::Word::{Bytes, Number, Text};
+use sentences::{Listed, Member, number_if_any, tell, write_members, write_members_and};
+use serde::{Described, Serialize, Serializer};
 use std::alloc::Global;
 use std::fmt;
+use std::fmt::Display;
 use ttp_model::{Instance, MemoryFault, Plan};
 
 /// A message with its bytes.
-#[derive(Clone, Copy, Serialize)]
+#[derive(Clone, Copy)]
 pub struct FrameMessage<'a> {
     pub message: &'a str,
     pub bytes: u32,
 }
 
+impl<'a> Described for FrameMessage<'a> {}
+
+impl<'a> Serialize for FrameMessage<'a> {
+    fn serialize<S: Serializer>(&self, out: &mut S) -> Result<(), S::Error> {
+        write_members(
+            &[
+                ("message", Member::Text(self.message)),
+                ("bytes", Member::Number(u64::from(self.bytes))),
+            ],
+            out,
+        )
+    }
+}
+
 impl<'a> fmt::Display for FrameMessage<'a> {
     fn fmt<W: fmt::Write>(&self, f: &mut fmt::Formatter<W>) -> fmt::Result {
         let (message, bytes) = (self.message, self.bytes);
-        write!(f, "{message} {bytes}")
+        tell(f, "{} {}", &[Text(message), Number(u64::from(bytes))])
     }
 }
 
 /// A frame whose messages exceed its capacity; in bytes.
-#[derive(Drop, Serialize)]
+#[derive(Drop)]
 pub struct Overfull<'a> {
     pub node: &'a str,
     pub round: u32,
@@ -97,21 +113,52 @@ fn frame_message(instance: &Instance, m: usize) -> FrameMessage<'_>
     }
 }
 
+impl<'a> Described for Overfull<'a> {}
+
+impl<'a> Serialize for Overfull<'a> {
+    fn serialize<S: Serializer>(&self, out: &mut S) -> Result<(), S::Error> {
+        let members = [
+            ("node", Member::Text(self.node)),
+            ("round", Member::Number(u64::from(self.round))),
+            ("channel", number_if_any(self.channel)),
+            ("capacity", Member::Number(u64::from(self.capacity))),
+            ("load", Member::Number(self.load)),
+            ("by", Member::Number(self.by)),
+        ];
+        write_members_and(&members, "messages", &self.messages, out)
+    }
+}
+
+/// Tells a frame's capacity, and how much its messages have.
+fn write_load<W: fmt::Write>(f: &mut fmt::Formatter<W>, capacity: u32, load: u64) -> fmt::Result {
+    tell(
+        f,
+        ".\n  its capacity is {}; its messages have {}: ",
+        &[Bytes(u64::from(capacity)), Number(load)],
+    )
+}
+
+/// Tells how many bytes too many they have.
+fn write_excess<W: fmt::Write>(f: &mut fmt::Formatter<W>, by: u64) -> fmt::Result {
+    tell(f, "\n  {} too many\n", &[Bytes(by)])
+}
+
 impl<'a> fmt::Display for Overfull<'a> {
     fn fmt<W: fmt::Write>(&self, f: &mut fmt::Formatter<W>) -> fmt::Result {
         let (node, round) = (self.node, self.round);
-        write!(f, "{node}'s frame of round {round} is too full")?;
+        tell(
+            f,
+            "{}'s frame of round {} is too full",
+            &[Text(node), Number(u64::from(round))],
+        )?;
         if let Some(channel) = self.channel {
             write!(f, " on channel {channel}")?;
         }
-        let (capacity, load) = (Bytes(u64::from(self.capacity)), self.load);
+        write_load(f, self.capacity, self.load)?;
         let messages = Listed {
             items: self.messages.as_slice(),
         };
-        writeln!(
-            f,
-            ".\n  its capacity is {capacity}; its messages have {load}: {messages}"
-        )?;
-        writeln!(f, "  {} too many", Bytes(self.by))
+        messages.fmt(f)?;
+        write_excess(f, self.by)
     }
 }

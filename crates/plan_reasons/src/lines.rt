@@ -10,30 +10,29 @@ use crate::forms::{Form, form_of, last_line};
 use crate::orders::{TimesNamed, stranger, uneven};
 use line_text::numbered_line;
 use plan_format::LineFault;
-use sentences::Told;
-use serde::{Serialize, Serializer};
+use sentences::Word::{Number, Piece, Text};
+use sentences::{Member, number_if_any, piece_if_any, tell, write_members_and};
+use serde::{Described, Serialize, Serializer};
 use std::fmt;
+use std::fmt::Display;
 use ttp_model::Instance;
 
 /// The number of the order line.
 const ORDER_LINE: u32 = 3;
 
 /// A line of a plan's text that is at fault.
-#[derive(Clone, Copy, Serialize)]
+#[derive(Clone, Copy)]
 pub struct LineReason<'a> {
     /// Its number, from 1, with the lines that stand in front of that text.
     pub line: u32,
-    #[serde(skip_serializing)]
     pub fault: LineFault,
     /// What stands there.
-    #[serde(serialize_with = "write_piece")]
     pub text: &'a [u8],
     /// What has to stand there.
     pub form: Form<'a>,
     /// How many lines there have to be, with those in front, where the text ends too early.
     pub lines: Option<u32>,
     /// The first name of an order line that is no node's, where there is one.
-    #[serde(serialize_with = "write_piece_if_any")]
     pub stranger: Option<&'a [u8]>,
     /// The first node that an order line names not once, where it names nodes alone.
     pub uneven: Option<TimesNamed<'a>>,
@@ -61,19 +60,6 @@ pub fn line_reason<'a>(
         lines: lines_of(instance, before, fault),
         stranger: stranger_of(instance, text, line, fault),
         uneven: uneven_at(instance, text, fault),
-    }
-}
-
-/// Writes a piece of the text, as it is told.
-fn write_piece<S: Serializer>(piece: &&[u8], out: &mut S) -> Result<(), S::Error> {
-    out.collect_str(&Told { bytes: *piece })
-}
-
-/// The same, where there is one.
-fn write_piece_if_any<S: Serializer>(piece: &Option<&[u8]>, out: &mut S) -> Result<(), S::Error> {
-    match piece {
-        Some(piece) => write_piece(piece, out),
-        None => out.unit(),
     }
 }
 
@@ -133,24 +119,51 @@ impl<'a> LineReason<'a> {
     }
 }
 
+impl<'a> Described for LineReason<'a> {}
+
+impl<'a> Serialize for LineReason<'a> {
+    fn serialize<S: Serializer>(&self, out: &mut S) -> Result<(), S::Error> {
+        let members = [
+            ("line", Member::Number(u64::from(self.line))),
+            ("text", Member::Piece(self.text)),
+            ("form", self.form.member()),
+            ("lines", number_if_any(self.lines)),
+            ("stranger", piece_if_any(self.stranger)),
+        ];
+        write_members_and(&members, "uneven", &self.uneven, out)
+    }
+}
+
 impl<'a> fmt::Display for LineReason<'a> {
     fn fmt<W: fmt::Write>(&self, f: &mut fmt::Formatter<W>) -> fmt::Result {
         let ((before, behind), line) = (self.wrong(), self.line);
-        writeln!(f, "{before}{line}{behind}.")?;
+        tell(
+            f,
+            "{}{}{}.\n",
+            &[Text(before), Number(u64::from(line)), Text(behind)],
+        )?;
         if self.text.is_empty() {
-            writeln!(f, "  it is empty")?;
+            f.write_str("  it is empty\n")?;
         } else {
-            writeln!(f, "  it is: {}", Told { bytes: self.text })?;
+            tell(f, "  it is: {}\n", &[Piece(self.text)])?;
         }
-        writeln!(f, "  it has to be: {}", self.form)?;
+        f.write_str("  it has to be: ")?;
+        self.form.fmt(f)?;
+        f.write_str("\n")?;
         if let Some(lines) = self.lines {
-            writeln!(f, "  the text has to have {lines} lines")?;
+            tell(
+                f,
+                "  the text has to have {} lines\n",
+                &[Number(u64::from(lines))],
+            )?;
         }
         if let Some(word) = self.stranger {
-            writeln!(f, "  {} is no node", Told { bytes: word })?;
+            tell(f, "  {} is no node\n", &[Piece(word)])?;
         }
         if let Some(named) = self.uneven {
-            writeln!(f, "  {named}")?;
+            f.write_str("  ")?;
+            named.fmt(f)?;
+            f.write_str("\n")?;
         }
         Ok(())
     }
@@ -160,9 +173,9 @@ impl<'a> fmt::Display for TimesNamed<'a> {
     fn fmt<W: fmt::Write>(&self, f: &mut fmt::Formatter<W>) -> fmt::Result {
         let (node, times) = (self.node, self.times);
         if times == 0 {
-            write!(f, "it doesn't name {node}")
+            tell(f, "it doesn't name {}", &[Text(node)])
         } else {
-            write!(f, "it names {node} {times} times")
+            tell(f, "it names {} {} times", &[Text(node), Number(times)])
         }
     }
 }

@@ -6,15 +6,15 @@ ghost use Rattle.ttp_model.specs.Plans.{HasCapacitiesLength, HasOrderLength, IsN
 ghost use Rattle.plan_reasons.specs.Lists.{IsFirstPosition, IsWrongCapacity, IsWrongLength, IsWrongPosition, entries_of, owners_of};
 
 use crate::differences::{Difference, difference_of};
-use sentences::Counted;
-use serde::{Serialize, Serializer};
+use sentences::Word::{Count, Number, Text};
+use sentences::{Counted, Member, tell, write_members, write_members_and};
+use serde::{Described, Serialize, Serializer};
 use std::fmt;
 use ttp_model::{Instance, Plan, PlanPart};
 
 /// A list that hasn't one entry for each node, process or message.
-#[derive(Clone, Copy, Serialize)]
+#[derive(Clone, Copy)]
 pub struct WrongLength {
-    #[serde(serialize_with = "write_list")]
     pub list: PlanPart,
     /// How many entries it has.
     pub entries: u64,
@@ -72,18 +72,28 @@ fn entry_words(list: PlanPart) -> (&'static str, &'static str) {
     }
 }
 
-/// Writes which list it is.
-fn write_list<S: Serializer>(list: &PlanPart, out: &mut S) -> Result<(), S::Error> {
-    let (_, many) = entry_words(*list);
-    out.str(many)
-}
-
 /// The words for one of what has an entry there and for more.
 fn owner_words(list: PlanPart) -> (&'static str, &'static str) {
     match list {
         PlanPart::Order | PlanPart::Capacities => ("node", "nodes"),
         PlanPart::Starts => ("process", "processes"),
         PlanPart::Rounds | PlanPart::Channels => ("message", "messages"),
+    }
+}
+
+impl Described for WrongLength {}
+
+impl Serialize for WrongLength {
+    fn serialize<S: Serializer>(&self, out: &mut S) -> Result<(), S::Error> {
+        write_members(
+            &[
+                ("list", Member::Text(entry_words(self.list).1)),
+                ("entries", Member::Number(self.entries)),
+                ("owners", Member::Number(self.owners)),
+                ("by", self.by.member()),
+            ],
+            out,
+        )
     }
 }
 
@@ -102,13 +112,21 @@ impl fmt::Display for WrongLength {
             many,
         };
         let by = self.by;
-        writeln!(f, "The plan has {entries} for {owners}.\n  {by}")
+        tell(
+            f,
+            "The plan has {} for {}.\n  {} {}\n",
+            &[
+                Count(entries),
+                Count(owners),
+                Number(by.by()),
+                Text(by.side()),
+            ],
+        )
     }
 }
 
 /// A position of the order, from 0, whose node isn't a new one.
-#[derive(Clone, Copy, Serialize)]
-#[serde(tag = "case", rename_all = "snake_case")]
+#[derive(Clone, Copy)]
 pub enum WrongPosition<'a> {
     /// When its node stands before it, there for the first time.
     Again {
@@ -167,6 +185,43 @@ fn first_position(order: &[u32], k: usize) -> usize
     k
 }
 
+impl<'a> Described for WrongPosition<'a> {}
+
+impl<'a> Serialize for WrongPosition<'a> {
+    fn serialize<S: Serializer>(&self, out: &mut S) -> Result<(), S::Error> {
+        match *self {
+            WrongPosition::Again {
+                position,
+                node,
+                first,
+            } => write_members(
+                &[
+                    ("case", Member::Text("again")),
+                    ("position", Member::Number(position)),
+                    ("node", Member::Text(node)),
+                    ("first", Member::Number(first)),
+                ],
+                out,
+            ),
+            WrongPosition::NoNode {
+                position,
+                number,
+                last,
+                by,
+            } => write_members(
+                &[
+                    ("case", Member::Text("no_node")),
+                    ("position", Member::Number(position)),
+                    ("number", Member::Number(u64::from(number))),
+                    ("last", Member::Number(last)),
+                    ("by", Member::Number(by)),
+                ],
+                out,
+            ),
+        }
+    }
+}
+
 impl<'a> fmt::Display for WrongPosition<'a> {
     fn fmt<W: fmt::Write>(&self, f: &mut fmt::Formatter<W>) -> fmt::Result {
         match *self {
@@ -175,8 +230,11 @@ impl<'a> fmt::Display for WrongPosition<'a> {
                 node,
                 first,
             } => {
-                writeln!(f, "Position {position} of the order is {node} again.")?;
-                writeln!(f, "  it stands at position {first} already")
+                tell(
+                    f,
+                    "Position {} of the order is {} again.\n  it stands at position {} already\n",
+                    &[Number(position), Text(node), Number(first)],
+                )
             }
             WrongPosition::NoNode {
                 position,
@@ -184,10 +242,15 @@ impl<'a> fmt::Display for WrongPosition<'a> {
                 last,
                 by,
             } => {
-                writeln!(f, "Position {position} of the order is no node.")?;
-                writeln!(
+                tell(
                     f,
-                    "  it is {number}, and the last node is {last}: {by} too many"
+                    "Position {} of the order is no node.\n  it is {}, and the last node is {}: {} too many\n",
+                    &[
+                        Number(position),
+                        Number(u64::from(number)),
+                        Number(last),
+                        Number(by),
+                    ],
                 )
             }
         }
@@ -195,7 +258,7 @@ impl<'a> fmt::Display for WrongPosition<'a> {
 }
 
 /// A capacity, in bytes, that its node doesn't offer.
-#[derive(Clone, Copy, Serialize)]
+#[derive(Clone, Copy)]
 pub struct WrongCapacity<'a> {
     pub node: &'a str,
     pub capacity: u32,
@@ -216,13 +279,29 @@ pub fn wrong_capacity<'a>(instance: &'a Instance, plan: &Plan, n: usize) -> Wron
     }
 }
 
+impl<'a> Described for WrongCapacity<'a> {}
+
+impl<'a> Serialize for WrongCapacity<'a> {
+    fn serialize<S: Serializer>(&self, out: &mut S) -> Result<(), S::Error> {
+        let members = [
+            ("node", Member::Text(self.node)),
+            ("capacity", Member::Number(u64::from(self.capacity))),
+        ];
+        write_members_and(&members, "offered", &self.offered, out)
+    }
+}
+
 impl<'a> fmt::Display for WrongCapacity<'a> {
     fn fmt<W: fmt::Write>(&self, f: &mut fmt::Formatter<W>) -> fmt::Result {
         let (node, capacity) = (self.node, self.capacity);
-        write!(f, "{node}'s capacity is {capacity}, and {node} offers")?;
+        tell(
+            f,
+            "{}'s capacity is {}, and {} offers",
+            &[Text(node), Number(u64::from(capacity)), Text(node)],
+        )?;
         for option in self.offered {
-            write!(f, " {option}")?;
+            tell(f, " {}", &[Number(u64::from(*option))])?;
         }
-        writeln!(f, ".")
+        f.write_str(".\n")
     }
 }

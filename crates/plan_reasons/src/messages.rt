@@ -8,14 +8,15 @@ ghost use Rattle.plan_reasons.specs.Slots.{CanBeLaid};
 ghost use Rattle.plan_reasons.specs.Messages.{IsAllowed, IsNotArrived, IsNotReady, IsWrongChannel};
 
 use plan_facts::{arrival, first_in_time, ready_at};
-use sentences::Ticks;
-use serde::Serialize;
+use sentences::Word::{Number, Text, Ticks};
+use sentences::{Member, tell, write_members};
+use serde::{Described, Serialize, Serializer};
 use std::fmt;
 use tt_layout::Layout;
 use ttp_model::{BOTH_CHANNELS, Instance, Plan, end_of};
 
 /// A message whose slot begins before it is copied out; in ticks.
-#[derive(Clone, Copy, Serialize)]
+#[derive(Clone, Copy)]
 pub struct NotReady<'a> {
     pub message: &'a str,
     pub sender: &'a str,
@@ -75,31 +76,67 @@ fn first_round(instance: &Instance, plan: &Plan, m: usize) -> u32
     round as u32
 }
 
+impl<'a> Described for NotReady<'a> {}
+
+impl<'a> Serialize for NotReady<'a> {
+    fn serialize<S: Serializer>(&self, out: &mut S) -> Result<(), S::Error> {
+        write_members(
+            &[
+                ("message", Member::Text(self.message)),
+                ("sender", Member::Text(self.sender)),
+                ("node", Member::Text(self.node)),
+                ("end", Member::Number(self.end)),
+                ("copy_out", Member::Number(u64::from(self.copy_out))),
+                ("ready", Member::Number(self.ready)),
+                ("round", Member::Number(u64::from(self.round))),
+                ("slot", Member::Number(self.slot)),
+                ("by", Member::Number(self.by)),
+                (
+                    "first_in_time",
+                    Member::Number(u64::from(self.first_in_time)),
+                ),
+                ("first_slot", Member::Number(self.first_slot)),
+            ],
+            out,
+        )
+    }
+}
+
 impl<'a> fmt::Display for NotReady<'a> {
     fn fmt<W: fmt::Write>(&self, f: &mut fmt::Formatter<W>) -> fmt::Result {
         let (message, sender, node) = (self.message, self.sender, self.node);
         let (end, copy_out, ready) = (self.end, self.copy_out, self.ready);
-        let (round, slot, by) = (self.round, self.slot, Ticks(self.by));
+        let (round, slot, by) = (self.round, self.slot, self.by);
         let (first, first_slot) = (self.first_in_time, self.first_slot);
-        writeln!(f, "Message {message} isn't ready when its slot begins.")?;
-        write!(f, "  its sender {sender} on {node} ends at {end}")?;
-        writeln!(
+        tell(
             f,
-            ", and copying out takes {copy_out}: it is ready at {ready}"
+            "Message {} isn't ready when its slot begins.\n  its sender {} on {} ends at {}, and copying out takes {}: it is ready at {}\n",
+            &[
+                Text(message),
+                Text(sender),
+                Text(node),
+                Number(end),
+                Number(u64::from(copy_out)),
+                Number(ready),
+            ],
         )?;
-        writeln!(
+        tell(
             f,
-            "  {node}'s slot of round {round} begins at {slot}: {by} too early"
-        )?;
-        writeln!(
-            f,
-            "  the first round in time is round {first}, at {first_slot}"
+            "  {}'s slot of round {} begins at {}: {} too early\n  the first round in time is round {}, at {}\n",
+            &[
+                Text(node),
+                Number(u64::from(round)),
+                Number(slot),
+                Ticks(by),
+                Number(u64::from(first)),
+                Number(first_slot),
+            ],
         )
     }
 }
 
 /// A receiver that starts before a message is copied in; in ticks.
-#[derive(Clone, Copy, Serialize)]
+#[derive(Clone, Copy)]
 pub struct NotArrived<'a> {
     pub message: &'a str,
     /// The node that sends it.
@@ -141,27 +178,61 @@ pub fn not_arrived<'a>(instance: &'a Instance, plan: &Plan, m: usize, q: usize) 
     }
 }
 
+impl<'a> Described for NotArrived<'a> {}
+
+impl<'a> Serialize for NotArrived<'a> {
+    fn serialize<S: Serializer>(&self, out: &mut S) -> Result<(), S::Error> {
+        write_members(
+            &[
+                ("message", Member::Text(self.message)),
+                ("source", Member::Text(self.source)),
+                ("round", Member::Number(u64::from(self.round))),
+                ("slot_end", Member::Number(self.slot_end)),
+                ("copy_in", Member::Number(u64::from(self.copy_in))),
+                ("there", Member::Number(self.there)),
+                ("receiver", Member::Text(self.receiver)),
+                ("node", Member::Text(self.node)),
+                ("start", Member::Number(u64::from(self.start))),
+                ("by", Member::Number(self.by)),
+            ],
+            out,
+        )
+    }
+}
+
 impl<'a> fmt::Display for NotArrived<'a> {
     fn fmt<W: fmt::Write>(&self, f: &mut fmt::Formatter<W>) -> fmt::Result {
         let (message, source, round) = (self.message, self.source, self.round);
         let (slot_end, copy_in, there) = (self.slot_end, self.copy_in, self.there);
-        let (receiver, node, start, by) = (self.receiver, self.node, self.start, Ticks(self.by));
-        writeln!(f, "{receiver} starts before message {message} is there.")?;
-        write!(f, "  {source}'s slot of round {round} ends at {slot_end}")?;
-        writeln!(
+        let (receiver, node, start, by) = (self.receiver, self.node, self.start, self.by);
+        tell(
             f,
-            ", and copying in takes {copy_in}: it is there at {there}"
+            "{} starts before message {} is there.\n  {}'s slot of round {} ends at {}, and copying in takes {}: it is there at {}\n",
+            &[
+                Text(receiver),
+                Text(message),
+                Text(source),
+                Number(u64::from(round)),
+                Number(slot_end),
+                Number(u64::from(copy_in)),
+                Number(there),
+            ],
         )?;
-        writeln!(
+        tell(
             f,
-            "  {receiver} on {node} starts at {start}: {by} too early"
+            "  {} on {} starts at {}: {} too early\n",
+            &[
+                Text(receiver),
+                Text(node),
+                Number(u64::from(start)),
+                Ticks(by),
+            ],
         )
     }
 }
 
 /// The channels that a message may be on.
-#[derive(Clone, Copy, Serialize)]
-#[serde(rename_all = "snake_case")]
+#[derive(Clone, Copy)]
 pub enum AllowedChannels {
     /// The only one.
     Only,
@@ -172,7 +243,7 @@ pub enum AllowedChannels {
 }
 
 /// A message that is on another channel than it may be on.
-#[derive(Clone, Copy, Serialize)]
+#[derive(Clone, Copy)]
 pub struct WrongChannel<'a> {
     pub message: &'a str,
     pub allowed: AllowedChannels,
@@ -208,24 +279,53 @@ fn allowed_channels(instance: &Instance, m: usize) -> AllowedChannels
     }
 }
 
-impl fmt::Display for AllowedChannels {
-    fn fmt<W: fmt::Write>(&self, f: &mut fmt::Formatter<W>) -> fmt::Result {
+impl AllowedChannels {
+    /// What they are called as a value.
+    fn name(self) -> &'static str {
         match self {
-            AllowedChannels::Only => write!(f, "channel 0, the only one"),
-            AllowedChannels::Both => write!(f, "both channels"),
-            AllowedChannels::Any => write!(f, "channel 0, channel 1 or both"),
+            AllowedChannels::Only => "only",
+            AllowedChannels::Both => "both",
+            AllowedChannels::Any => "any",
         }
+    }
+
+    /// What they are called in a sentence.
+    fn words(self) -> &'static str {
+        match self {
+            AllowedChannels::Only => "channel 0, the only one",
+            AllowedChannels::Both => "both channels",
+            AllowedChannels::Any => "channel 0, channel 1 or both",
+        }
+    }
+}
+
+impl<'a> Described for WrongChannel<'a> {}
+
+impl<'a> Serialize for WrongChannel<'a> {
+    fn serialize<S: Serializer>(&self, out: &mut S) -> Result<(), S::Error> {
+        write_members(
+            &[
+                ("message", Member::Text(self.message)),
+                ("allowed", Member::Text(self.allowed.name())),
+                ("channel", Member::Number(u64::from(self.channel))),
+            ],
+            out,
+        )
     }
 }
 
 impl<'a> fmt::Display for WrongChannel<'a> {
     fn fmt<W: fmt::Write>(&self, f: &mut fmt::Formatter<W>) -> fmt::Result {
-        let (message, allowed, channel) = (self.message, self.allowed, self.channel);
-        write!(f, "Message {message} has to be on {allowed}, and is on ")?;
+        let (message, allowed, channel) = (self.message, self.allowed.words(), self.channel);
+        tell(
+            f,
+            "Message {} has to be on {}, and is on ",
+            &[Text(message), Text(allowed)],
+        )?;
         if channel == BOTH_CHANNELS {
-            writeln!(f, "both channels.")
+            f.write_str("both channels.\n")
         } else {
-            writeln!(f, "channel {channel}.")
+            tell(f, "channel {}.\n", &[Number(u64::from(channel))])
         }
     }
 }

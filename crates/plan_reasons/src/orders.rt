@@ -9,17 +9,32 @@ ghost use Rattle.plan_format.specs.Words.{words_with};
 ghost use Rattle.plan_reasons.specs.Orders.{first_stranger, first_uneven, is_stranger, seen_times, times_named, uneven_of};
 
 use line_text::cut;
-use serde::Serialize;
+use sentences::{Member, write_members};
+use serde::{Described, Serialize, Serializer};
 use ttp_model::{Instance, Part};
 
 /// How many bytes the keyword of an order line has, with the space behind it.
 const KEYWORD: usize = 6;
 
 /// How often an order line names a node: another time than once.
-#[derive(Clone, Copy, Serialize)]
+#[derive(Clone, Copy)]
 pub struct TimesNamed<'a> {
     pub node: &'a str,
     pub times: u64,
+}
+
+impl<'a> Described for TimesNamed<'a> {}
+
+impl<'a> Serialize for TimesNamed<'a> {
+    fn serialize<S: Serializer>(&self, out: &mut S) -> Result<(), S::Error> {
+        write_members(
+            &[
+                ("node", Member::Text(self.node)),
+                ("times", Member::Number(self.times)),
+            ],
+            out,
+        )
+    }
 }
 
 /// The first word of an order line that is no node's name.

@@ -8,13 +8,14 @@ ghost use Rattle.plan_reasons.specs.Processes.{IsBrokenLink, IsOverlap, IsTooEar
 
 use cause_chains::{Limit, limit_of};
 use plan_facts::{late_by, must_end_by};
-use sentences::Ticks;
-use serde::Serialize;
+use sentences::Word::{Number, Text, Ticks};
+use sentences::{Member, tell, write_members};
+use serde::{Described, Serialize, Serializer};
 use std::fmt;
 use ttp_model::{Instance, Plan, end_of};
 
 /// A process that starts before its release; in ticks.
-#[derive(Clone, Copy, Serialize)]
+#[derive(Clone, Copy)]
 pub struct TooEarly<'a> {
     pub process: &'a str,
     pub node: &'a str,
@@ -40,20 +41,43 @@ pub fn too_early<'a>(instance: &'a Instance, plan: &Plan, p: usize) -> TooEarly<
     }
 }
 
+impl<'a> Described for TooEarly<'a> {}
+
+impl<'a> Serialize for TooEarly<'a> {
+    fn serialize<S: Serializer>(&self, out: &mut S) -> Result<(), S::Error> {
+        write_members(
+            &[
+                ("process", Member::Text(self.process)),
+                ("node", Member::Text(self.node)),
+                ("start", Member::Number(u64::from(self.start))),
+                ("release", Member::Number(u64::from(self.release))),
+                ("by", Member::Number(u64::from(self.by))),
+            ],
+            out,
+        )
+    }
+}
+
 impl<'a> fmt::Display for TooEarly<'a> {
     fn fmt<W: fmt::Write>(&self, f: &mut fmt::Formatter<W>) -> fmt::Result {
         let (process, node) = (self.process, self.node);
-        let (start, release, by) = (self.start, self.release, Ticks(u64::from(self.by)));
-        writeln!(f, "{process} on {node} starts before its release.")?;
-        writeln!(
+        let (start, release, by) = (self.start, self.release, u64::from(self.by));
+        tell(
             f,
-            "  it starts at {start}, and is released at {release}: {by} too early"
+            "{} on {} starts before its release.\n  it starts at {}, and is released at {}: {} too early\n",
+            &[
+                Text(process),
+                Text(node),
+                Number(u64::from(start)),
+                Number(u64::from(release)),
+                Ticks(by),
+            ],
         )
     }
 }
 
 /// A process that ends after its deadline or the horizon; in ticks.
-#[derive(Clone, Copy, Serialize)]
+#[derive(Clone, Copy)]
 pub struct TooLate<'a> {
     pub process: &'a str,
     pub node: &'a str,
@@ -85,22 +109,51 @@ pub fn too_late<'a>(instance: &'a Instance, plan: &Plan, p: usize) -> TooLate<'a
     }
 }
 
+impl<'a> Described for TooLate<'a> {}
+
+impl<'a> Serialize for TooLate<'a> {
+    fn serialize<S: Serializer>(&self, out: &mut S) -> Result<(), S::Error> {
+        write_members(
+            &[
+                ("process", Member::Text(self.process)),
+                ("node", Member::Text(self.node)),
+                ("start", Member::Number(u64::from(self.start))),
+                ("wcet", Member::Number(u64::from(self.wcet))),
+                ("end", Member::Number(self.end)),
+                ("limit", Member::Text(self.limit.name())),
+                ("latest", Member::Number(u64::from(self.latest))),
+                ("by", Member::Number(self.by)),
+            ],
+            out,
+        )
+    }
+}
+
 impl<'a> fmt::Display for TooLate<'a> {
     fn fmt<W: fmt::Write>(&self, f: &mut fmt::Formatter<W>) -> fmt::Result {
-        let (process, node, limit) = (self.process, self.node, self.limit);
+        let (process, node, limit) = (self.process, self.node, self.limit.words());
         let (start, wcet, end) = (self.start, self.wcet, self.end);
-        let (latest, by) = (self.latest, Ticks(self.by));
-        writeln!(f, "{process} on {node} ends after {limit}.")?;
-        writeln!(
+        let (latest, by) = (self.latest, self.by);
+        tell(
             f,
-            "  it starts at {start} and takes {wcet}: it ends at {end}"
-        )?;
-        writeln!(f, "  {limit} is {latest}: {by} too late")
+            "{} on {} ends after {}.\n  it starts at {} and takes {}: it ends at {}\n  {} is {}: {} too late\n",
+            &[
+                Text(process),
+                Text(node),
+                Text(limit),
+                Number(u64::from(start)),
+                Number(u64::from(wcet)),
+                Number(end),
+                Text(limit),
+                Number(u64::from(latest)),
+                Ticks(by),
+            ],
+        )
     }
 }
 
 /// Two processes of one node that run together; in ticks.
-#[derive(Clone, Copy, Serialize)]
+#[derive(Clone, Copy)]
 pub struct Overlap<'a> {
     pub node: &'a str,
     pub process: &'a str,
@@ -138,22 +191,52 @@ pub fn overlap_of<'a>(instance: &'a Instance, plan: &Plan, p: usize, q: usize) -
     }
 }
 
+impl<'a> Described for Overlap<'a> {}
+
+impl<'a> Serialize for Overlap<'a> {
+    fn serialize<S: Serializer>(&self, out: &mut S) -> Result<(), S::Error> {
+        write_members(
+            &[
+                ("node", Member::Text(self.node)),
+                ("process", Member::Text(self.process)),
+                ("start", Member::Number(u64::from(self.start))),
+                ("end", Member::Number(self.end)),
+                ("other", Member::Text(self.other)),
+                ("other_start", Member::Number(u64::from(self.other_start))),
+                ("other_end", Member::Number(self.other_end)),
+                ("by", Member::Number(self.by)),
+            ],
+            out,
+        )
+    }
+}
+
 impl<'a> fmt::Display for Overlap<'a> {
     fn fmt<W: fmt::Write>(&self, f: &mut fmt::Formatter<W>) -> fmt::Result {
         let (process, other, node) = (self.process, self.other, self.node);
         let (start, end) = (self.start, self.end);
-        let (other_start, other_end, by) = (self.other_start, self.other_end, Ticks(self.by));
-        writeln!(f, "{process} and {other} on {node} overlap.")?;
-        write!(f, "  {process} runs from {start} to {end}")?;
-        writeln!(
+        let (other_start, other_end, by) = (self.other_start, self.other_end, self.by);
+        tell(
             f,
-            ", and {other} from {other_start} to {other_end}: {by} together"
+            "{} and {} on {} overlap.\n  {} runs from {} to {}, and {} from {} to {}: {} together\n",
+            &[
+                Text(process),
+                Text(other),
+                Text(node),
+                Text(process),
+                Number(u64::from(start)),
+                Number(end),
+                Text(other),
+                Number(u64::from(other_start)),
+                Number(other_end),
+                Ticks(by),
+            ],
         )
     }
 }
 
 /// A link whose second process starts before its first has ended; in ticks.
-#[derive(Clone, Copy, Serialize)]
+#[derive(Clone, Copy)]
 pub struct BrokenLink<'a> {
     /// The link's index, from 0.
     pub link: u64,
@@ -187,14 +270,43 @@ pub fn broken_link<'a>(instance: &'a Instance, plan: &Plan, l: usize) -> BrokenL
     }
 }
 
+impl<'a> Described for BrokenLink<'a> {}
+
+impl<'a> Serialize for BrokenLink<'a> {
+    fn serialize<S: Serializer>(&self, out: &mut S) -> Result<(), S::Error> {
+        write_members(
+            &[
+                ("link", Member::Number(self.link)),
+                ("before", Member::Text(self.before)),
+                ("end", Member::Number(self.end)),
+                ("after", Member::Text(self.after)),
+                ("start", Member::Number(u64::from(self.start))),
+                ("node", Member::Text(self.node)),
+                ("by", Member::Number(self.by)),
+            ],
+            out,
+        )
+    }
+}
+
 impl<'a> fmt::Display for BrokenLink<'a> {
     fn fmt<W: fmt::Write>(&self, f: &mut fmt::Formatter<W>) -> fmt::Result {
         let (before, after, node, link) = (self.before, self.after, self.node, self.link);
-        let (end, start, by) = (self.end, self.start, Ticks(self.by));
-        writeln!(f, "{after} on {node} waits for {before} by link {link}.")?;
-        writeln!(
+        let (end, start, by) = (self.end, self.start, self.by);
+        tell(
             f,
-            "  {before} ends at {end}, and {after} starts at {start}: {by} too early"
+            "{} on {} waits for {} by link {}.\n  {} ends at {}, and {} starts at {}: {} too early\n",
+            &[
+                Text(after),
+                Text(node),
+                Text(before),
+                Number(link),
+                Text(before),
+                Number(end),
+                Text(after),
+                Number(u64::from(start)),
+                Ticks(by),
+            ],
         )
     }
 }

@@ -12,14 +12,15 @@ use crate::messages::{NotArrived, NotReady, WrongChannel, not_arrived, not_ready
 use crate::processes::{
     BrokenLink, Overlap, TooEarly, TooLate, broken_link, overlap_of, too_early, too_late,
 };
-use serde::Serialize;
+use sentences::write_kind;
+use serde::{Described, Serialize, Serializer};
 use std::alloc::Global;
 use std::fmt;
+use std::fmt::Display;
 use ttp_model::{Instance, MemoryFault, Plan, PlanFault};
 
 /// What two things the rule compares that a plan breaks, both numbers with their names, and by how much the plan fails it.
-#[derive(Drop, Serialize)]
-#[serde(tag = "kind", rename_all = "snake_case")]
+#[derive(Drop)]
 pub enum PlanReason<'a> {
     WrongLength(WrongLength),
     WrongPosition(WrongPosition<'a>),
@@ -79,20 +80,40 @@ pub fn reason_of<'a>(
     })
 }
 
+impl<'a> Described for PlanReason<'a> {}
+
+impl<'a> Serialize for PlanReason<'a> {
+    fn serialize<S: Serializer>(&self, out: &mut S) -> Result<(), S::Error> {
+        match self {
+            PlanReason::WrongLength(reason) => write_kind("wrong_length", reason, out),
+            PlanReason::WrongPosition(reason) => write_kind("wrong_position", reason, out),
+            PlanReason::WrongCapacity(reason) => write_kind("wrong_capacity", reason, out),
+            PlanReason::TooEarly(reason) => write_kind("too_early", reason, out),
+            PlanReason::TooLate(reason) => write_kind("too_late", reason, out),
+            PlanReason::Overlap(reason) => write_kind("overlap", reason, out),
+            PlanReason::BrokenLink(reason) => write_kind("broken_link", reason, out),
+            PlanReason::NotReady(reason) => write_kind("not_ready", reason, out),
+            PlanReason::NotArrived(reason) => write_kind("not_arrived", reason, out),
+            PlanReason::Overfull(reason) => write_kind("overfull", reason, out),
+            PlanReason::WrongChannel(reason) => write_kind("wrong_channel", reason, out),
+        }
+    }
+}
+
 impl<'a> fmt::Display for PlanReason<'a> {
     fn fmt<W: fmt::Write>(&self, f: &mut fmt::Formatter<W>) -> fmt::Result {
         match self {
-            PlanReason::WrongLength(reason) => write!(f, "{reason}"),
-            PlanReason::WrongPosition(reason) => write!(f, "{reason}"),
-            PlanReason::WrongCapacity(reason) => write!(f, "{reason}"),
-            PlanReason::TooEarly(reason) => write!(f, "{reason}"),
-            PlanReason::TooLate(reason) => write!(f, "{reason}"),
-            PlanReason::Overlap(reason) => write!(f, "{reason}"),
-            PlanReason::BrokenLink(reason) => write!(f, "{reason}"),
-            PlanReason::NotReady(reason) => write!(f, "{reason}"),
-            PlanReason::NotArrived(reason) => write!(f, "{reason}"),
-            PlanReason::Overfull(reason) => write!(f, "{reason}"),
-            PlanReason::WrongChannel(reason) => write!(f, "{reason}"),
+            PlanReason::WrongLength(reason) => reason.fmt(f),
+            PlanReason::WrongPosition(reason) => reason.fmt(f),
+            PlanReason::WrongCapacity(reason) => reason.fmt(f),
+            PlanReason::TooEarly(reason) => reason.fmt(f),
+            PlanReason::TooLate(reason) => reason.fmt(f),
+            PlanReason::Overlap(reason) => reason.fmt(f),
+            PlanReason::BrokenLink(reason) => reason.fmt(f),
+            PlanReason::NotReady(reason) => reason.fmt(f),
+            PlanReason::NotArrived(reason) => reason.fmt(f),
+            PlanReason::Overfull(reason) => reason.fmt(f),
+            PlanReason::WrongChannel(reason) => reason.fmt(f),
         }
     }
 }
