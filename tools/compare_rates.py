@@ -198,7 +198,7 @@ def second(call, *texts):
         return fault.status, fault.line
 
 
-ASKED = ("unroll",)  # of `unroll` and `repeat` what the program has
+ASKED = ("unroll", "repeat")
 
 
 def repeated(text, plan=None):

@@ -9,7 +9,7 @@ use crate::joining::join_request;
 use crate::misuse::Misuse;
 use crate::options::{
     ANY_PLAN, CERTIFICATE, EXPLAINED_CERT, EXPLAINED_PLAN, FORMAT, INSTANCE, NEW_INSTANCE,
-    NEW_PLAN, OLD_INSTANCE, OLD_PLAN, RATES,
+    NEW_PLAN, OLD_INSTANCE, OLD_PLAN, RATES, UNROLLED_PLAN,
 };
 use crate::searching::{limit_request, margin_request, solve_request, why_request};
 use crate::table::{Asks, COMMANDS, row_of};
@@ -52,6 +52,15 @@ fn unroll_request<'a>(given: Given<'_, 'a>) -> Result<Request<'a>, Misuse<'a>>
 {
     let rates = given.text(RATES)?;
     Ok(Request::Unroll { rates })
+}
+
+/// How a cluster of several rates repeats, with a plan where there is one.
+fn repeat_request<'a>(given: Given<'_, 'a>) -> Result<Request<'a>, Misuse<'a>>
+    ensures { IfOk result IsSound }
+{
+    let rates = given.text(RATES)?;
+    let plan = given.text_if_any(UNROLLED_PLAN);
+    Ok(Request::Repeat { rates, plan })
 }
 
 /// The check of a certificate.
@@ -121,6 +130,7 @@ fn request_of<'a>(
         Asks::Tables => tables_request(given),
         Asks::Period => period_request(given),
         Asks::Unroll => unroll_request(given),
+        Asks::Repeat => repeat_request(given),
         Asks::Replay => replay_request(alloc, given),
         Asks::Schedule => schedule_request(given),
         Asks::Draw => draw_request(given),

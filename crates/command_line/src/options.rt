@@ -100,6 +100,14 @@ pub const RATES: &Row = &Row {
     help: "A cluster whose processes have periods of their own, in TOML",
 };
 
+/// The file of a plan of the instance that such a cluster unrolls into.
+pub const UNROLLED_PLAN: &Row = &Row {
+    name: "PLAN",
+    place: Place::MaybeWord,
+    takes: Takes::Text,
+    help: "A plan of the instance that `ttplan unroll` prints",
+};
+
 /// The file of the instance before a change.
 pub const OLD_INSTANCE: &Row = &Row {
     name: "OLD_INSTANCE",

@@ -5,7 +5,8 @@ use crate::options::{
     CERTIFICATES, EXPLAINED_CERT, EXPLAINED_PLAN, FORMAT, GAP, INSTANCE, KEEP, LATE, LOSSES,
     NEW_INSTANCE, NEW_PLAN, NODE, OLD_INSTANCE, OLD_PLAN, PERIOD_TICKS, PERMILLE, PLAN, PROCESSES,
     PROGRESS, RATES, REDUCED, ROUNDS, RUNNERS, SCHEDULE_FORMAT, SEARCH_BUDGET, SEARCHED,
-    SEARCHES_PROGRESS, SECONDS, START, TABLE, UNTIL, USED, WIDTH, WITH_MORE, WITHIN, WORKERS,
+    SEARCHES_PROGRESS, SECONDS, START, TABLE, UNROLLED_PLAN, UNTIL, USED, WIDTH, WITH_MORE, WITHIN,
+    WORKERS,
 };
 use crate::rows::Row;
 
@@ -24,6 +25,7 @@ pub enum Asks {
     Tables,
     Period,
     Unroll,
+    Repeat,
     Replay,
     Schedule,
     Draw,
@@ -188,6 +190,16 @@ const UNROLL: &CommandRow = &CommandRow {
     ),
 };
 
+/// Tells of a cluster of several rates that repeats.
+const REPEAT: &CommandRow = &CommandRow {
+    name: "repeat",
+    about: "Prints how a cluster of several rates repeats, and what holds of a valid plan of it in all cycles",
+    rows: &[RATES, UNROLLED_PLAN],
+    after: Some(
+        "It prints a line `ttrepeat 1`, and behind it `finer` with how many ticks are one of RATES, `period` and `round` with their ticks, `rounds` with how many whole rounds the cycle holds, and `gap` with the ticks behind the last of them, in which the bus is silent; where that isn't 0, `near A B`: the longest round of no more ticks that divides the cycle, and the shortest of no fewer. Then stand `processes`, `links` and `messages`, with how many the instance of one cycle has.\n\nWith a PLAN of that instance, which has to be valid, more lines follow, and each number is the greatest over all jobs of all cycles:\n  `process NAME JITTER RESPONSE`: by how much its starts vary, from the begins of its periods, and how long after its release it ends\n  `chain NAME AGE BOUND`: how old what it carries is at its end, and how old that may be",
+    ),
+};
+
 /// Replays a cycle.
 const REPLAY: &CommandRow = &CommandRow {
     name: "replay",
@@ -238,6 +250,7 @@ pub const COMMANDS: &[Asks] = &[
     Asks::Tables,
     Asks::Period,
     Asks::Unroll,
+    Asks::Repeat,
     Asks::Replay,
     Asks::Schedule,
     Asks::Draw,
@@ -259,6 +272,7 @@ pub fn row_of(asks: Asks) -> &'static CommandRow {
         Asks::Tables => TABLES,
         Asks::Period => PERIOD,
         Asks::Unroll => UNROLL,
+        Asks::Repeat => REPEAT,
         Asks::Replay => REPLAY,
         Asks::Schedule => SCHEDULE,
         Asks::Draw => DRAW,

@@ -150,6 +150,11 @@ pub enum Request<'a> {
     Unroll {
         rates: &'a str,
     },
+    /// Tell how the cluster of several rates of a file repeats, and what holds of the plan of another one.
+    Repeat {
+        rates: &'a str,
+        plan: Option<&'a str>,
+    },
     /// Search the instance of a file.
     Solve(Search<'a>),
     /// Tell why the instance of a file has no plan.

@@ -13,7 +13,7 @@ mod worked;
 
 pub use fits::{Fit, MOST_FITS};
 pub use laws::{plans_repeat_for_ever, processes_start_behind_frames};
-pub use repetition::{Dividing, Near, Repetition, held_rounds, repetition_of};
-pub use text::print;
+pub use repetition::{Dividing, Near, Repetition, held_rounds, near_of, repetition_of};
+pub use text::{print, put_near};
 pub use ttp_model::MemoryFault;
 pub use worked::{pair_that_repeats, trail_below_the_precision};

@@ -98,8 +98,8 @@ fn dividing_of(
     Ok(Some(Dividing { near, fits }))
 }
 
-/// The rounds nearest to this one that divide a period.
-fn near_of(period: u64, round: u64) -> Near
+/// The rounds nearest to this one that divide a period. A step for each tick of it.
+pub fn near_of(period: u64, round: u64) -> Near
     requires some { 0 < round }
     requires within { round ≤ period }
     ensures { IsNear period round result }

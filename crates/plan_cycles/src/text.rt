@@ -63,9 +63,9 @@ fn put_dividing(text: &mut String, dividing: &Dividing) -> Result<(), AllocError
     put_fits(text, dividing.fits.as_slice())
 }
 
-/// Adds the line of the nearest rounds.
+/// Adds the line of the nearest rounds: `near BELOW ABOVE`.
 #[tactic(auto, unfolding(crate::specs::Text::near_line))]
-fn put_near(text: &mut String, near: Near) -> Result<(), AllocError>
+pub fn put_near(text: &mut String, near: Near) -> Result<(), AllocError>
     ensures { OnOk result (string_bytes text.new ≡ string_bytes text.old ++ near_line near) }
 {
     let (below, above) = (near.below, near.above);

@@ -1,1 +1,5 @@
 pub mod Unrollings
+pub mod Repeatings
+pub mod LinesAdded
+pub mod CycleParts
+pub mod PlanReads

@@ -5,7 +5,7 @@ use Rattle.rates_model.specs.Rates.{Rates}
 use Rattle.unrolled_jobs.specs.declared.unrolling.UnrollFault.{UnrollFault}
 use Rattle.unrolled_jobs.specs.Unrolled.{unrolled}
 use Rattle.rates_command.specs.declared.ending.RatesFault.{RatesFault}
-use Rattle.rates_command.specs.declared.ending.RatesFault.TheVariants.{Memory, Text, Unrolled, Unread, TooLong, Unwritten}
+use Rattle.rates_command.specs.declared.ending.RatesFault.TheVariants.{Memory, Text, Unrolled, Unread, TooLong, OfPlan, Unwritten}
 use Rattle.rates_command.specs.declared.ending.RatesEnd.{RatesEnd}
 use Rattle.rates_command.specs.declared.ending.RatesEnd.TheVariants.{Done, Refused}
 use Rattle.rates_command.specs.Answers.{AreRefusedFor, HasRates, IsOfInstance, IsOfUnrolling, IsRatesAnswer, IsUnrollAnswer, IsUnrolledText}
@@ -21,17 +21,19 @@ module _ (IsText IsOther : List ℕ → Type 0) (texts : (text : List ℕ) → I
   answered old new (Refused (Unrolled fault)) told = (refused (Unrolled fault) told.0, told.1)
   answered old new (Refused Unread) told = (refused Unread told.0, told.1)
   answered old new (Refused TooLong) told = (refused TooLong told.0, told.1)
+  answered old new (Refused (OfPlan fault)) told = (refused (OfPlan fault) told.0, told.1)
 
 module _ (bytes : List ℕ) (rho : Rates) (has : HasRates bytes rho) where
   stated : (text : List ℕ) → IsOfInstance (unrolled rho) text → IsUnrolledText bytes text
   stated text states = record { rates = rho; has = has; states = states }
 
-  not_unrolled : (fault : RatesFault) → IsOfUnrolling rho fault → AreRefusedFor bytes fault
+  pub not_unrolled : (fault : RatesFault) → IsOfUnrolling rho fault → AreRefusedFor bytes fault
   not_unrolled Memory why = tt
   not_unrolled (Unrolled fault) why = record { rates = rho; has = has; refused = why }
   not_unrolled (Text error) why = absurd why
   not_unrolled Unread why = absurd why
   not_unrolled TooLong why = absurd why
+  not_unrolled (OfPlan fault) why = absurd why
   not_unrolled Unwritten why = absurd why
 
   unrolled_answer : (old new : Option (List ℕ)) (end : RatesEnd) → IsRatesAnswer (IsOfInstance (unrolled rho)) (IsOfUnrolling rho) old new end → IsUnrollAnswer bytes old new end
@@ -44,15 +46,18 @@ pub told_of_reader : (known : Option (List ℕ)) (rho : Rates) (old new : Option
 told_of_reader None rho old new end has told = tt
 told_of_reader (Some bytes) rho old new end has told = unrolled_answer bytes rho has old new end told
 
-refused_for : (bytes : List ℕ) (old : Option (List ℕ)) (fault : RatesFault) → Keeps old old → AreRefusedFor bytes fault → IsUnrollAnswer bytes old old (Refused fault)
-refused_for bytes old Unwritten kept why = absurd why
-refused_for bytes old Memory kept why = (why, kept)
-refused_for bytes old (Text error) kept why = (why, kept)
-refused_for bytes old (Unrolled fault) kept why = (why, kept)
-refused_for bytes old Unread kept why = (why, kept)
-refused_for bytes old TooLong kept why = (why, kept)
+-- nothing is written at a fault
+pub refused_so : (IsText : List ℕ → Type 0) (AreRefused : RatesFault → Type 0) → ¬ AreRefused Unwritten → (old : Option (List ℕ)) (fault : RatesFault) → Keeps old old → AreRefused fault
+    → IsRatesAnswer IsText AreRefused old old (Refused fault)
+refused_so IsText AreRefused never old Unwritten kept why = absurd (never why)
+refused_so IsText AreRefused never old Memory kept why = (why, kept)
+refused_so IsText AreRefused never old (Text error) kept why = (why, kept)
+refused_so IsText AreRefused never old (Unrolled fault) kept why = (why, kept)
+refused_so IsText AreRefused never old Unread kept why = (why, kept)
+refused_so IsText AreRefused never old TooLong kept why = (why, kept)
+refused_so IsText AreRefused never old (OfPlan fault) kept why = (why, kept)
 
 pub refused_of_reader : (known old : Option (List ℕ)) (fault : RatesFault) → Keeps old old → IfSome known (λ bytes. AreRefusedFor bytes fault)
     → IfSome known (λ bytes. IsUnrollAnswer bytes old old (Refused fault))
 refused_of_reader None old fault kept why = tt
-refused_of_reader (Some bytes) old fault kept why = refused_for bytes old fault kept why
+refused_of_reader (Some bytes) old fault kept why = refused_so (IsUnrolledText bytes) (AreRefusedFor bytes) (λ never. never) old fault kept why

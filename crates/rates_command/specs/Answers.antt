@@ -12,7 +12,7 @@ use Rattle.unrolled_jobs.specs.Refusals.{IsUnrollFault}
 use Rattle.unrolled_jobs.specs.Unrolled.{unrolled}
 use Rattle.rates_command.specs.declared.limits.TheConstants.{RATES_LIMIT}
 use Rattle.rates_command.specs.declared.ending.RatesFault.{RatesFault}
-use Rattle.rates_command.specs.declared.ending.RatesFault.TheVariants.{Memory, Text, Unrolled, Unread, TooLong, Unwritten}
+use Rattle.rates_command.specs.declared.ending.RatesFault.TheVariants.{Memory, Text, Unrolled, Unread, TooLong, OfPlan, Unwritten}
 use Rattle.rates_command.specs.declared.ending.RatesEnd.{RatesEnd}
 use Rattle.rates_command.specs.declared.ending.RatesEnd.TheVariants.{Done, Refused}
 
@@ -34,6 +34,7 @@ AreRefusedFor bytes (Text error) = (length bytes ≤ RATES_LIMIT) × IsFirstRate
 AreRefusedFor bytes (Unrolled fault) = IsNotUnrolled bytes fault
 AreRefusedFor bytes Unread = Unit {0}
 AreRefusedFor bytes TooLong = RATES_LIMIT < length bytes
+AreRefusedFor bytes (OfPlan fault) = ⊥
 AreRefusedFor bytes Unwritten = ⊥
 
 -- a text that states the instance of a cycle

@@ -1,3 +1,6 @@
 pub mod Endings
 pub mod Lines
 pub mod Answers
+pub mod Cycles
+pub mod ReadPlans
+pub mod Repeats

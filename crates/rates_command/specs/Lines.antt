@@ -21,9 +21,9 @@ use Rattle.rates_text.specs.declared.error.RatesTextError.TheVariants as text
 use Rattle.unrolled_jobs.specs.declared.unrolling.UnrollFault.{UnrollFault}
 use Rattle.unrolled_jobs.specs.declared.unrolling.UnrollFault.TheVariants as unrolled
 use Rattle.unrolled_jobs.specs.Tables.{instance_of}
-use Rattle.command_streams.specs.Lines.{part_word}
+use Rattle.command_streams.specs.Lines.{fault_line, part_word}
 use Rattle.rates_command.specs.declared.ending.RatesFault.{RatesFault}
-use Rattle.rates_command.specs.declared.ending.RatesFault.TheVariants.{Memory, Text, Unrolled, Unread, TooLong, Unwritten}
+use Rattle.rates_command.specs.declared.ending.RatesFault.TheVariants.{Memory, Text, Unrolled, Unread, TooLong, OfPlan, Unwritten}
 use Rattle.rates_command.specs.declared.ending.RatesEnd.{RatesEnd}
 use Rattle.rates_command.specs.declared.ending.RatesEnd.TheVariants.{Done, Refused}
 
@@ -128,6 +128,7 @@ rates_line (Text error) = rates_text_line error
 rates_line (Unrolled fault) = unroll_line fault
 rates_line Unread = codes "read rates"
 rates_line TooLong = codes "read rates"
+rates_line (OfPlan fault) = fault_line fault
 rates_line Unwritten = codes "write out"
 
 -- what is written on standard error at an end

@@ -3,6 +3,7 @@
 ghost use Rattle.std.specs.Prelude.{◌≡◌};
 ghost use Rattle.rates_command.specs.Endings.{rates_fault_status, rates_status_of};
 
+use command_streams::{Fault, status_of_fault as status_of_plan};
 use rates_text::RatesTextError;
 use unrolled_jobs::UnrollFault;
 
@@ -19,6 +20,8 @@ pub enum RatesFault {
     Unread,
     /// When the reader had more bytes than its limit.
     TooLong,
+    /// When a plan of the instance is refused, as `verify` refuses it, or its reader failed or had more bytes than its limit.
+    OfPlan(Fault),
     /// When the writer failed, or took no byte.
     Unwritten,
 }
@@ -43,6 +46,7 @@ fn status_of_fault(fault: &RatesFault) -> u8
         RatesFault::Unrolled(_) => 3,
         RatesFault::Unread => 6,
         RatesFault::TooLong => 6,
+        RatesFault::OfPlan(fault) => status_of_plan(fault),
         RatesFault::Unwritten => 6,
     }
 }

@@ -198,6 +198,7 @@ impl fmt::Display for RatesFault {
             RatesFault::Text(error) => write!(f, "{}", RatesTextLine(*error)),
             RatesFault::Unrolled(fault) => write!(f, "{}", UnrollLine(fault)),
             RatesFault::Unread | RatesFault::TooLong => write!(f, "read rates"),
+            RatesFault::OfPlan(fault) => write!(f, "{fault}"),
             RatesFault::Unwritten => write!(f, "write out"),
         }
     }

@@ -27,7 +27,9 @@ pub use plan_commands::{
     check_run, compare_run, draw_run, export_run, judge_run, replay_run, schedule_run, tables,
     verify, verify_bundle,
 };
-pub use rates_command::{RatesEnd, RatesFault, rates_status, report_rates, unroll_run};
+pub use rates_command::{
+    RatesEnd, RatesFault, rates_status, repeat_plan_run, repeat_run, report_rates, unroll_run,
+};
 pub use solve_command::{Options, solve_run};
 use std::io;
 use std::marker::Sync;
@@ -52,6 +54,7 @@ fn run(rt: &HostRuntime, threads: &(impl Threads + Wait + Sync), request: Reques
             task,
         } => judging::of_rounds(rt, instance, plan, task),
         Request::Unroll { rates } => rates::unroll(rt, rates),
+        Request::Repeat { rates, plan } => rates::repeat(rt, rates, plan),
         Request::Solve(search) => searches::solve(rt, threads, &search),
         Request::Why(why) => searches::why(rt, threads, &why),
         Request::Limit(limit) => searches::limit(rt, threads, &limit),

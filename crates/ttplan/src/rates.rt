@@ -1,15 +1,25 @@
-//! What is told of the cluster of several rates of a file?
+//! What is told of the cluster of several rates of a file? All files of a command are open before one is read, in the order of its words.
 
 use crate::hints::hint_at_file;
-use rates_command::{RatesEnd, RatesFault, rates_status, report_rates, unroll_run};
+use command_streams::{Fault, Source};
+use rates_command::{
+    RatesEnd, RatesFault, rates_status, repeat_plan_run, repeat_run, report_rates, unroll_run,
+};
 use std::fs::File;
 
-/// Says on standard error why a cluster was refused, and which file it is where that can't be read, and gives the status.
-fn told(rt: &HostRuntime, end: &RatesEnd, rates: &str) -> u8 {
+/// Says on standard error why a cluster was refused, or a plan of it, and which file it is where that can't be read, and gives the
+/// status.
+fn told(rt: &HostRuntime, end: &RatesEnd, rates: &str, plan: &str) -> u8 {
     let _ = report_rates(end, &mut rt.stderr());
     match end {
         RatesEnd::Refused(RatesFault::Unread) => hint_at_file(rt, "can't be opened or read", rates),
         RatesEnd::Refused(RatesFault::TooLong) => hint_at_file(rt, "has too many bytes", rates),
+        RatesEnd::Refused(RatesFault::OfPlan(Fault::Unread(_))) => {
+            hint_at_file(rt, "can't be opened or read", plan)
+        }
+        RatesEnd::Refused(RatesFault::OfPlan(Fault::TooLong(_))) => {
+            hint_at_file(rt, "has too many bytes", plan)
+        }
         _ => {}
     }
     rates_status(end)
@@ -25,5 +35,32 @@ fn run_unroll(rt: &HostRuntime, rates: &str) -> RatesEnd {
 
 /// Writes it, says why that was refused, and gives the status.
 pub fn unroll(rt: &HostRuntime, rates: &str) -> u8 {
-    told(rt, &run_unroll(rt, rates), rates)
+    told(rt, &run_unroll(rt, rates), rates, "")
+}
+
+/// Writes how the cluster of a file repeats.
+fn run_repeat(rt: &HostRuntime, rates: &str) -> RatesEnd {
+    match File::open(rt, rates) {
+        Ok(mut rates) => repeat_run(rt.alloc(), &mut rates, &mut rt.stdout()),
+        Err(_) => RatesEnd::Refused(RatesFault::Unread),
+    }
+}
+
+/// Writes it with what holds of the plan of a second file.
+fn run_repeat_plan(rt: &HostRuntime, rates: &str, plan: &str) -> RatesEnd {
+    let Ok(mut rates) = File::open(rt, rates) else {
+        return RatesEnd::Refused(RatesFault::Unread);
+    };
+    let Ok(mut plan) = File::open(rt, plan) else {
+        return RatesEnd::Refused(RatesFault::OfPlan(Fault::Unread(Source::Plan)));
+    };
+    repeat_plan_run(rt.alloc(), &mut rates, &mut plan, &mut rt.stdout())
+}
+
+/// Writes it, of a plan too where there is one, says why that was refused, and gives the status.
+pub fn repeat(rt: &HostRuntime, rates: &str, plan: Option<&str>) -> u8 {
+    match plan {
+        None => told(rt, &run_repeat(rt, rates), rates, ""),
+        Some(plan) => told(rt, &run_repeat_plan(rt, rates, plan), rates, plan),
+    }
 }
