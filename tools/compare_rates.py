@@ -7,13 +7,16 @@ Each text has periods of 6 to 36 ticks, with and without a gap, values of the sa
 or two channels; some are damaged. Both programs have to write the same instance, byte for byte, or the same refusal, and the same of how
 it repeats. Of each instance so many plans are made, most of them nearly valid: a plan has to be valid for the unrolled instance exactly
 where it is right in six cycles, told by absolute jobs and ticks; and where it is valid ttplan's numbers of all cycles have to be those of
-the six. A text or plan on which the two differ is told, and kept in FOLDER. What was answered how often is written at the end, and the
+the six. The least age of a first chain has to be that of all plans of the cluster, where these are few enough to be tried one after another,
+and what shows it is judged. A text or plan on which the two differ is told, and kept in FOLDER. What was answered how often is written at the end, and the
 status is 1 where any differed. With --alone no program is run: then the plans are compared alone. Which circle of processes is told is
 left out (M13)."""
 
 import argparse
 import collections
+import itertools
 import json
+import math
 import pathlib
 import random
 import subprocess
@@ -24,6 +27,10 @@ ROOT = pathlib.Path(__file__).resolve().parent.parent
 sys.path.insert(0, str(ROOT / "tools"))
 import compare_checks  # noqa: E402
 import second_check  # noqa: E402
+from loading import loaded  # noqa: E402
+
+EVERY = loaded("tests/every_plan")
+TRIED = 20_000  # so many starts of all jobs and stores together are tried, at most
 
 PERIODS = [[6, 12], [8, 4], [12, 6, 4], [10, 20], [9, 18, 36], [12, 24], [8, 16, 24], [10, 15], [12], [14, 7], [36, 18, 12], [12, 18], [20, 30]]
 
@@ -216,6 +223,60 @@ def are_same(one, other):
     return one == other or one[1].startswith(circles) and other[1].startswith(circles)
 
 
+# The least age of a chain, by all plans
+
+
+def every_instance(instance):
+    """The same instance, as tests/every_plan has it."""
+    return EVERY.Instance(
+        instance.cluster | {"horizon": instance.horizon, "channels": instance.channels}, [list(node.capacities) for node in instance.nodes],
+        [EVERY.Process(process.node, process.wcet, process.release, process.deadline) for process in instance.processes],
+        [(link.before, link.after) for link in instance.links],
+        [EVERY.Message(message.sender, message.to, message.bytes, message.both) for message in instance.messages])
+
+
+def least_of_all(unrolled, chain):
+    """The least age that a chain has in any plan; none where there is no plan."""
+    rates, instance, best = unrolled.rates, every_instance(unrolled.instance), None
+    last, first = chain.through[-1], chain.through[0]
+
+    def age(starts):
+        return max(starts[unrolled.place[last, job]] + rates.processes[last].wcet - rates.released(first, rates.carried(chain, job))
+                   for job in range(rates.jobs(last)))
+
+    every = sorted((age(starts), starts) for starts in EVERY.starts_of(instance))
+    caps = [node[0] for node in instance.nodes]
+    for order in itertools.permutations(range(len(caps))):
+        length, slots = EVERY.slots_of(instance, order, caps)
+        for own, starts in every:
+            if best is not None and own >= best:
+                break
+            if EVERY.can_send(instance, starts, caps, length, slots):
+                best = own
+                break
+    return best
+
+
+def least_age(text):
+    """The line of the least age of a text's first chain; none where there are too many plans. Raises Refused."""
+    rates = second_check.Rates(text)
+    unrolled = second_check.Unrolled(second_check.with_age(rates, 0, second_check.TICKS_MOST))
+    if math.prod(process.deadline - process.release - process.wcet + 1 for process in unrolled.instance.processes) > TRIED:
+        return None
+    best = least_of_all(unrolled, rates.chains[0])
+    if best is None:
+        return "none"
+    full = second_check.job_without_room(unrolled, 0, best - 1)
+    return f"age {best}" if full is None else f"age {best} window {full}"
+
+
+def has_chain(text):
+    try:
+        return bool(second_check.Rates(text).chains)
+    except second_check.Refused:
+        return False
+
+
 class Comparison:
     def __init__(self, asked, room):
         self.dice, self.asked, self.room = random.Random(asked.seed), asked, room
@@ -239,6 +300,26 @@ class Comparison:
                 self.tell(k, command, texts, f"ttplan {said}", f"second_check {other}")
         return other
 
+    def age(self, k, text):
+        """Compares the least age of the first chain with that of all plans, and has what shows it judged."""
+        status, wanted = second(least_age, text)
+        if wanted is None:
+            return
+        self.answers["ages"] += 1
+        if self.asked.alone:
+            return
+        rates, cert, reduced, answer = (self.room / name for name in ("rates", "cert", "reduced", "answer"))
+        rates.write_bytes(text)
+        chain = second_check.Rates(text).chains[0].name
+        _, said = first(self.asked.program, "age", rates, chain, "--workers", "1", "--cert", cert, "--reduced", reduced)
+        if said.partition("\n")[0] != wanted and not said.startswith("rates M13"):
+            self.tell(k, "age", (text,), f"ttplan {said}", f"all plans {wanted}")
+        elif status == 0:
+            answer.write_text(said + "\n")
+            judged = second(second_check.age, (rates, answer, cert), ["--reduced", str(reduced), chain])
+            if judged[0]:
+                self.tell(k, "age", (text,), f"ttplan {said}", f"second_check {judged}")
+
     def case(self, k):
         text = made_text(self.dice)
         if self.dice.random() < 0.25:
@@ -248,6 +329,8 @@ class Comparison:
         if status == 0:
             self.programs(k, "repeat", repeated, text)
             self.plans(k, text)
+        if has_chain(text):
+            self.age(k, text)
 
     def plans(self, k, text):
         """Compares what is valid with what repeats rightly."""

@@ -28,6 +28,9 @@
     tools/second_check.py why INSTANCE [OPTION]..  asks `ttplan why` with these words, and writes what that says once it is judged
     tools/second_check.py unroll RATES             writes the instance of a cluster with several periods
     tools/second_check.py repeat RATES [PLAN]      writes how that repeats, and what its plan means in all cycles
+    tools/second_check.py age RATES ANSWER CERT [--reduced FILE] CHAIN
+                                                   writes the first line of ANSWER, which `ttplan age RATES CHAIN` printed beside CERT and
+                                                   FILE, where they show what they have to
 
 Anything else is told in one line on standard error, with the words and the statuses of `ttplan verify`, `check`, `judge`,
 `join`, `schedule`, `draw`, `tables`, `period`, `replay`, `compare`, `unroll` and `repeat`. A plan of a cluster with several periods is judged for
@@ -2261,6 +2264,79 @@ def repeat(paths):
         return "\n".join(repeated_lines(rates, taken(texts[1], "plan", PLAN_BYTES) if texts[1:] else None)), 0
 
 
+# The least age of a chain
+
+
+def with_age(rates, k, age):
+    """The cluster in which what a chain carries may be so old."""
+    other = copy.copy(rates)
+    other.chains = [replace(chain, age=age) if x == k else chain for x, chain in enumerate(rates.chains)]
+    return other
+
+
+def job_without_room(unrolled, k, age):
+    """The first job that doesn't end in time, if it starts at its release, where what a chain carries may be so old; none where each does."""
+    rates, chain = unrolled.rates, unrolled.rates.chains[k]
+    for (p, job), process in zip(unrolled.jobs, unrolled.instance.processes):
+        latest = age + rates.released(chain.through[0], rates.carried(chain, job)) if p == chain.through[-1] else process.deadline
+        if process.release + process.wcet > min(process.deadline, latest):
+            return process.name
+    return None
+
+
+def judge_age(unrolled, k, plan, age):
+    """Judges that a plan is right for ever, and how old what a chain carries is in it; raises Refused."""
+    repeated = Repeated(unrolled, plan)
+    for fault in repeated.faults():
+        raise Refused(5, "age repeat", *fault)
+    if (own := max(repeated.ages(unrolled.rates.chains[k]))) != age:
+        raise Refused(5, "age own", own)
+
+
+def judge_younger(rates, k, age, certificate_text, reduced_text):
+    """Judges that there is no plan with an age; raises Refused."""
+    younger = Unrolled(with_age(rates, k, age)).instance
+    if reduced_text is not None and not are_same(younger, Instance(reduced_text)):
+        raise Refused(5, "age reduced")
+    if (low := proved_bound(younger, certificate_text)) != younger.horizon + 1:
+        raise Refused(5, "age bound", low)
+
+
+def aged(rates, answer, certificate_text, reduced_text, k):
+    """What an answer shows of how old what a chain carries has to be, and the status; raises Refused. That no plan is valid, or that none was
+    found, is shown by nothing."""
+    line, _, rest = answer.partition(b"\n")
+    form = re.fullmatch(rb"none|age (\d+)( window (\w+))?|between (\d+) (\d+|none)", line)
+    if not form or bool(rest) != (line != b"none" and form[5] != b"none"):
+        raise Refused(5, "age form")
+    unrolled = Unrolled(with_age(rates, k, TICKS_MOST))
+    if rest:
+        judge_age(unrolled, k, verified(unrolled.instance, rest, lines_before=1), int(form[1] or form[5]))
+    if form[1] and not form[2]:
+        judge_younger(rates, k, int(form[1]) - 1, certificate_text, reduced_text)
+        return line.decode(), 0
+    if certificate_text or reduced_text:
+        raise Refused(5, "age beside")
+    if form[2] and (full := job_without_room(unrolled, k, int(form[1]) - 1)) != form[3].decode():
+        raise Refused(5, "age window", full or "none")
+    if form[4] and job_without_room(unrolled, k, int(form[4])):
+        raise Refused(5, "age low")
+    if form[4] and form[5] != b"none" and not int(form[4]) < int(form[5]):
+        raise Refused(5, "age apart")
+    return line.decode(), 10 if line == b"none" else 0 if form[1] else 11
+
+
+def age(paths, words):
+    """The same of files; raises Refused."""
+    reduced_text, words = reduced_in(words, 1)
+    with (opened(paths[0], "rates") as rates, opened(paths[1], "plan") as answer, opened(paths[2], "certificate") as certificate):
+        judged = Rates(taken(rates, "rates", INSTANCE_BYTES))
+        found = [k for k, chain in enumerate(judged.chains) if [chain.name] == words]
+        if not found:
+            raise Refused(5, "age name")
+        return aged(judged, taken(answer, "plan", PRINTED_BYTES), taken(certificate, "certificate", CERTIFICATE_BYTES), reduced_text, found[0])
+
+
 # The program
 
 
@@ -2271,7 +2347,7 @@ USAGE = ("usage: second_check.py verify INSTANCE PLAN | check INSTANCE CERT | ju
          " | replay INSTANCE PLAN [LOSS].."
          " | compare OLD_INSTANCE OLD_PLAN NEW_INSTANCE NEW_PLAN | limit INSTANCE ANSWER CERT [--reduced FILE] PROCESS.."
          " | margin INSTANCE ANSWER CERT [--reduced FILE] [--permille] [--within D] [PROCESS].. | why INSTANCE [OPTION].."
-         " | unroll RATES | repeat RATES [PLAN]")
+         " | unroll RATES | repeat RATES [PLAN] | age RATES ANSWER CERT [--reduced FILE] CHAIN")
 COMMANDS = {"verify": (verify, "plan", PLAN_BYTES), "check": (check, "certificate", CERTIFICATE_BYTES),
             "tables": (tables, "plan", PLAN_BYTES)}
 
@@ -2587,6 +2663,8 @@ def run(words):
         return unroll(words[1:])
     if len(words) in (2, 3) and words[0] == "repeat":
         return repeat(words[1:])
+    if len(words) >= 5 and words[0] == "age":
+        return age(words[1:4], words[4:])
     command, what, most = command_of(words)
     with opened(words[1], "instance") as instance, opened(words[2], what) as text:
         judged = Instance(taken(instance, "instance", INSTANCE_BYTES))

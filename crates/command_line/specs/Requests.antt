@@ -1,7 +1,7 @@
 -- What holds of a request.
 use Rattle.std.specs.Prelude.{◌≤◌, ℕ, List, All, length, IfSome}
 use Rattle.command_line.specs.declared.words.Request.{Request}
-use Rattle.command_line.specs.declared.words.Request.TheVariants.{OfRounds, OnFiles, Solve, Why as Asking, Limit as Limiting, Margin as Lengthening, Join}
+use Rattle.command_line.specs.declared.words.Request.TheVariants.{OfRounds, OnFiles, Solve, Why as Asking, Limit as Limiting, Margin as Lengthening, Age as Aging, Join}
 use Rattle.command_line.specs.declared.words.Effort.{Effort}
 use Rattle.command_line.specs.declared.words.Search.{Search}
 use Rattle.command_line.specs.declared.words.Question.{Question}
@@ -75,4 +75,5 @@ IsSound (Asking why) = IsSoundQuestion why.question
 IsSound (Limiting limit) = IsSoundLimit limit
 IsSound (Lengthening margin) = IsSoundMargin margin
 IsSound (Join joining) = IsSoundJoining joining
+IsSound (Aging age) = IsSoundQuestion age.question
 IsSound _ = Unit {0}

@@ -11,7 +11,7 @@ use crate::options::{
     ANY_PLAN, CERTIFICATE, EXPLAINED_CERT, EXPLAINED_PLAN, FORMAT, INSTANCE, NEW_INSTANCE,
     NEW_PLAN, OLD_INSTANCE, OLD_PLAN, RATES, UNROLLED_PLAN,
 };
-use crate::searching::{limit_request, margin_request, solve_request, why_request};
+use crate::searching::{age_request, limit_request, margin_request, solve_request, why_request};
 use crate::table::{Asks, COMMANDS, row_of};
 use crate::tasks::{
     draw_request, period_request, replay_request, schedule_request, tables_request, verify_request,
@@ -131,6 +131,7 @@ fn request_of<'a>(
         Asks::Period => period_request(given),
         Asks::Unroll => unroll_request(given),
         Asks::Repeat => repeat_request(given),
+        Asks::Age => age_request(alloc, given),
         Asks::Replay => replay_request(alloc, given),
         Asks::Schedule => schedule_request(given),
         Asks::Draw => draw_request(given),

@@ -22,6 +22,6 @@ pub use refusal::refuse;
 pub use rows::Row;
 pub use table::Asks;
 pub use words::{
-    AnswerForm, Effort, Explained, Joining, Limit, Margin, Question, Request, RoundsTask, Search,
-    Task, VERSION, Why, all,
+    Age, AnswerForm, Effort, Explained, Joining, Limit, Margin, Question, Request, RoundsTask,
+    Search, Task, VERSION, Why, all,
 };

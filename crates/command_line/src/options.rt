@@ -80,6 +80,14 @@ pub const RUNNERS: &Row = &Row {
     help: "The name of a process that is to run longer, of which each is named once; where none is named, all are",
 };
 
+/// The chain whose age is to be small.
+pub const CHAIN: &Row = &Row {
+    name: "CHAIN",
+    place: Place::Word,
+    takes: Takes::Text,
+    help: "The name of a chain",
+};
+
 /// How many ticks a period has.
 pub const PERIOD_TICKS: &Row = &Row {
     name: "PERIOD",
@@ -144,6 +152,9 @@ pub const NEW_PLAN: &Row = &Row {
 
 /// What is said of a file that is that of the instance.
 const OVER_INSTANCE: &str = "that is the instance's file, which would be emptied";
+
+/// The same of the file of a cluster of several rates.
+const OVER_RATES: &str = "that is the cluster's file, which would be emptied";
 
 /// Of one that is another file of the command.
 pub const OVER_OTHER: &str = "another file of the command would be emptied";
@@ -389,6 +400,30 @@ pub const WITH_MORE: &Row = &Row {
         over_other: OVER_OTHER,
     }),
     help: "Also writes the instance that the certificate is for to this file, in TOML: the one in which these processes run longer by one more, and all has to end by D. A file that is there is emptied first; INSTANCE itself is refused, and the certificate's file",
+};
+
+/// The file of the certificate of an age that is too small.
+pub const CERT_OF_LESS: &Row = &Row {
+    name: "cert",
+    place: Place::Option("FILE"),
+    takes: Takes::File(Written {
+        sink: Sink::Certificate,
+        over_instance: OVER_RATES,
+        over_other: OVER_OTHER,
+    }),
+    help: "Also writes the certificate that there is no plan with an age of one less to this file, where a search showed that, before the answer is printed: `ttplan check` accepts it for the file of `--reduced`. A file that is there is emptied first; RATES itself is refused",
+};
+
+/// The file of the instance with such an age.
+pub const WITH_LESS: &Row = &Row {
+    name: "reduced",
+    place: Place::Option("FILE"),
+    takes: Takes::File(Written {
+        sink: Sink::Reduced,
+        over_instance: OVER_OTHER,
+        over_other: OVER_OTHER,
+    }),
+    help: "Also writes the instance that the certificate is for to this file, in TOML: the one of a cycle in which the age of CHAIN is one less. A file that is there is emptied first; RATES itself is refused, and the certificate's file",
 };
 
 /// In which form an answer is written.

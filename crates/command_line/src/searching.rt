@@ -6,12 +6,12 @@ ghost use Rattle.command_line.specs.Requests.{IsSound, IsSoundEffort, IsSoundQue
 use crate::given::Given;
 use crate::misuse::Misuse;
 use crate::options::{
-    BUDGET, CERT, CERT_OF_LAST, CERT_OF_MORE, CERT_OF_NONE, FORMAT, GAP, INSTANCE, KEEP, LATE,
-    PERMILLE, PROCESSES, PROGRESS, REDUCED, RUNNERS, SEARCH_BUDGET, SEARCHED, SECONDS, START,
-    UNTIL, WITH_MORE, WITHIN, WORKERS,
+    BUDGET, CERT, CERT_OF_LAST, CERT_OF_LESS, CERT_OF_MORE, CERT_OF_NONE, CHAIN, FORMAT, GAP,
+    INSTANCE, KEEP, LATE, PERMILLE, PROCESSES, PROGRESS, RATES, REDUCED, RUNNERS, SEARCH_BUDGET,
+    SEARCHED, SECONDS, START, UNTIL, WITH_LESS, WITH_MORE, WITHIN, WORKERS,
 };
 use crate::rows::Row;
-use crate::words::{Effort, Limit, Margin, Question, Request, Search, Why};
+use crate::words::{Age, AnswerForm, Effort, Limit, Margin, Question, Request, Search, Why};
 use std::alloc::Global;
 
 /// How much searches may take, of which each has the budget of this row.
@@ -60,20 +60,22 @@ pub fn solve_request<'a>(alloc: Global, given: Given<'_, 'a>) -> Result<Request<
     Ok(Request::Solve(search))
 }
 
-/// A question with its numbers, each in its range, and files to be written, by the rows of both, that aren't the one which it reads.
+/// A question with its numbers, each in its range, and files to be written, by the rows of both, that aren't the one which it reads, by
+/// the first row.
 fn question_of<'a>(
     alloc: Global,
     given: Given<'_, 'a>,
+    read: &'static Row,
     certificate: &'static Row,
     reduced: &'static Row,
+    form: AnswerForm,
 ) -> Result<Question<'a>, Misuse<'a>>
     ensures { IfOk result IsSoundQuestion }
 {
-    let instance = given.text(INSTANCE)?;
+    let instance = given.text(read)?;
     let certificate = given.written(alloc, certificate, instance, None)?;
     let reduced = given.written(alloc, reduced, instance, certificate)?;
     let effort = effort_of(given, SEARCH_BUDGET)?;
-    let form = given.form(FORMAT)?;
     Ok(Question {
         instance,
         certificate,
@@ -87,7 +89,8 @@ fn question_of<'a>(
 pub fn why_request<'a>(alloc: Global, given: Given<'_, 'a>) -> Result<Request<'a>, Misuse<'a>>
     ensures { IfOk result IsSound }
 {
-    let question = question_of(alloc, given, CERT_OF_NONE, REDUCED)?;
+    let form = given.form(FORMAT)?;
+    let question = question_of(alloc, given, INSTANCE, CERT_OF_NONE, REDUCED, form)?;
     let late = given.flag(LATE);
     Ok(Request::Why(Why { question, late }))
 }
@@ -106,7 +109,8 @@ fn processes_of<'a>(alloc: Global, given: Given<'_, 'a>) -> Result<Vec<&'a str>,
 pub fn limit_request<'a>(alloc: Global, given: Given<'_, 'a>) -> Result<Request<'a>, Misuse<'a>>
     ensures { IfOk result IsSound }
 {
-    let question = question_of(alloc, given, CERT_OF_LAST, SEARCHED)?;
+    let form = given.form(FORMAT)?;
+    let question = question_of(alloc, given, INSTANCE, CERT_OF_LAST, SEARCHED, form)?;
     let processes = processes_of(alloc, given)?;
     Ok(Request::Limit(Limit {
         question,
@@ -118,7 +122,8 @@ pub fn limit_request<'a>(alloc: Global, given: Given<'_, 'a>) -> Result<Request<
 pub fn margin_request<'a>(alloc: Global, given: Given<'_, 'a>) -> Result<Request<'a>, Misuse<'a>>
     ensures { IfOk result IsSound }
 {
-    let question = question_of(alloc, given, CERT_OF_MORE, WITH_MORE)?;
+    let form = given.form(FORMAT)?;
+    let question = question_of(alloc, given, INSTANCE, CERT_OF_MORE, WITH_MORE, form)?;
     let thousandths = given.flag(PERMILLE);
     let within = given.u32(WITHIN)?;
     let processes = given.list(alloc, RUNNERS)?;
@@ -128,4 +133,20 @@ pub fn margin_request<'a>(alloc: Global, given: Given<'_, 'a>) -> Result<Request
         thousandths,
         within,
     }))
+}
+
+/// A search for a small age.
+pub fn age_request<'a>(alloc: Global, given: Given<'_, 'a>) -> Result<Request<'a>, Misuse<'a>>
+    ensures { IfOk result IsSound }
+{
+    let question = question_of(
+        alloc,
+        given,
+        RATES,
+        CERT_OF_LESS,
+        WITH_LESS,
+        AnswerForm::Text,
+    )?;
+    let chain = given.text(CHAIN)?;
+    Ok(Request::Age(Age { question, chain }))
 }

@@ -1,11 +1,12 @@
 //! Which commands are there, with which words and options, and what does the help say of each?
 
 use crate::options::{
-    ANY_PLAN, BUDGET, CERT, CERT_OF_ALL, CERT_OF_LAST, CERT_OF_MORE, CERT_OF_NONE, CERTIFICATE,
-    CERTIFICATES, EXPLAINED_CERT, EXPLAINED_PLAN, FORMAT, GAP, INSTANCE, KEEP, LATE, LOSSES,
-    NEW_INSTANCE, NEW_PLAN, NODE, OLD_INSTANCE, OLD_PLAN, PERIOD_TICKS, PERMILLE, PLAN, PROCESSES,
-    PROGRESS, RATES, REDUCED, ROUNDS, RUNNERS, SCHEDULE_FORMAT, SEARCH_BUDGET, SEARCHED,
-    SEARCHES_PROGRESS, SECONDS, START, TABLE, UNROLLED_PLAN, UNTIL, USED, WIDTH, WITH_MORE, WITHIN,
+    ANY_PLAN, BUDGET, CERT, CERT_OF_ALL, CERT_OF_LAST, CERT_OF_LESS, CERT_OF_MORE, CERT_OF_NONE,
+    CERTIFICATE, CERTIFICATES, CHAIN, EXPLAINED_CERT, EXPLAINED_PLAN, FORMAT, GAP, INSTANCE, KEEP,
+    LATE, LOSSES, NEW_INSTANCE, NEW_PLAN, NODE, OLD_INSTANCE, OLD_PLAN, PERIOD_TICKS, PERMILLE,
+    PLAN, PROCESSES, PROGRESS, RATES, REDUCED, ROUNDS, RUNNERS, SCHEDULE_FORMAT, SEARCH_BUDGET,
+    SEARCHED, SEARCHES_PROGRESS, SECONDS, START, TABLE, UNROLLED_PLAN, UNTIL, USED, WIDTH,
+    WITH_LESS, WITH_MORE, WITHIN,
     WORKERS,
 };
 use crate::rows::Row;
@@ -26,6 +27,7 @@ pub enum Asks {
     Period,
     Unroll,
     Repeat,
+    Age,
     Replay,
     Schedule,
     Draw,
@@ -200,6 +202,25 @@ const REPEAT: &CommandRow = &CommandRow {
     ),
 };
 
+/// Tells how old what a chain carries has to be.
+const AGE: &CommandRow = &CommandRow {
+    name: "age",
+    about: "Prints the least age that a chain of a cluster of several rates can have, and a plan that has it",
+    rows: &[
+        RATES,
+        CHAIN,
+        WORKERS,
+        SEARCH_BUDGET,
+        SECONDS,
+        WITH_LESS,
+        CERT_OF_LESS,
+        SEARCHES_PROGRESS,
+    ],
+    after: Some(
+        "It prints one of these, and ends with the status beside it:\n   0  `age X`, and behind it the text of a plan of the instance that `ttplan unroll` prints, but for the chain's own bound: what the chain carries is never older than X in it, in any cycle, and in each valid plan it is as old as that in some; `age X window JOB`, where that is so because this job has no room by itself with X - 1\n  10  `none`: no plan is valid\n  11  `between LOW HIGH`, and behind it the text of a plan in which the age is HIGH, or `between LOW none`, where no plan is known: a search was stopped; in no valid plan it is below LOW\n\nThe age of a chain is the greatest time from the release of a job of its first process to the end of the job of its last one that carries its value. The bound in RATES on this chain's age is left out, those on others are kept.\n\nFirst any plan is looked for, then one with an age half way between the ages that are known, and so on. The last search has to show that there is no plan with X - 1. Each has N subtrees. Once the seconds have passed the search at hand is stopped, and so is each further one as it begins.",
+    ),
+};
+
 /// Replays a cycle.
 const REPLAY: &CommandRow = &CommandRow {
     name: "replay",
@@ -251,6 +272,7 @@ pub const COMMANDS: &[Asks] = &[
     Asks::Period,
     Asks::Unroll,
     Asks::Repeat,
+    Asks::Age,
     Asks::Replay,
     Asks::Schedule,
     Asks::Draw,
@@ -273,6 +295,7 @@ pub fn row_of(asks: Asks) -> &'static CommandRow {
         Asks::Period => PERIOD,
         Asks::Unroll => UNROLL,
         Asks::Repeat => REPEAT,
+        Asks::Age => AGE,
         Asks::Replay => REPLAY,
         Asks::Schedule => SCHEDULE,
         Asks::Draw => DRAW,

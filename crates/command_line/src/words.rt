@@ -84,6 +84,7 @@ pub struct Search<'a> {
 /// What several searches of an instance are to answer.
 #[derive(Clone, Copy, Debug)]
 pub struct Question<'a> {
+    /// The file of the instance, or of a cluster of several rates.
     pub instance: &'a str,
     /// Where the certificate is written.
     pub certificate: Option<&'a str>,
@@ -119,6 +120,14 @@ pub struct Margin<'a> {
     pub thousandths: bool,
     /// By which tick all has to end, 1 to 1,000,000.
     pub within: u32,
+}
+
+/// How old what a chain of a cluster of several rates carries has to be.
+#[derive(Clone, Copy, Debug)]
+pub struct Age<'a> {
+    pub question: Question<'a>,
+    /// The chain's name.
+    pub chain: &'a str,
 }
 
 /// Which certificates of an instance are to be joined.
@@ -163,6 +172,8 @@ pub enum Request<'a> {
     Limit(Limit<'a>),
     /// Tell by how much longer processes of the instance of a file may run.
     Margin(Margin<'a>),
+    /// Tell the least age of a chain of the cluster of several rates of a file.
+    Age(Age<'a>),
     /// Check the certificate of one file for the instance of another.
     Check {
         instance: &'a str,

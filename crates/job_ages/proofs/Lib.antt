@@ -1,6 +1,6 @@
-mod Tops
-mod ForEver
+pub mod Tops
+pub mod ForEver
 mod Reading
-mod OneAge
-mod OtherBounds
-mod Bounded
+pub mod OneAge
+pub mod OtherBounds
+pub mod Bounded

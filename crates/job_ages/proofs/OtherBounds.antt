@@ -67,7 +67,7 @@ module _ (rho : Rates) (x most : ℕ) where
       ap (λ (at : ℕ). undated (instance.process_at (unrolled other) at)) (sym (place_same (Store m place)))
       ∙ ap undated (store_at other m place (run_same (Store m place) there)) ∙ ap undated (store_same m place) ∙ ap undated (sym (store_at rho m place there))
 
-  undated_at : (p : ℕ) → p < length (unrolled_processes rho) → undated (instance.process_at (unrolled other) p) ≡ undated (instance.process_at (unrolled rho) p)
+  pub undated_at : (p : ℕ) → p < length (unrolled_processes rho) → undated (instance.process_at (unrolled other) p) ≡ undated (instance.process_at (unrolled rho) p)
   undated_at p inside =
       let run = run_at rho p inside in
       subst (λ (at : ℕ). undated (instance.process_at (unrolled other) at) ≡ undated (instance.process_at (unrolled rho) at)) run.2 (undated_run run.0 run.1)

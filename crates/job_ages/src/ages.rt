@@ -15,8 +15,9 @@ use std::alloc::Global;
 use ttp_model::{MemoryFault, Plan};
 use unrolled_jobs::{carried_release, waits_along};
 
-/// The greatest age of what jobs of a chain's last process carry, told by one cycle in which none reaches back to one before all.
-fn greatest_age(rates: &Rates, plan: &Plan, chain: &Chain, waits: &[u32]) -> u64
+/// The greatest age of what jobs of a chain's last process carry, told by one cycle in which none reaches back to one before all. Takes no
+/// memory.
+pub fn greatest_age(rates: &Rates, plan: &Plan, chain: &Chain, waits: &[u32]) -> u64
     requires least { LEAST_THROUGH ≤ length chain.now.through }
     requires most { length chain.now.through ≤ MOST_THROUGH }
     requires inside { All (IsRatesProcess rates.now) chain.now.through }

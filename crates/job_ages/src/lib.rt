@@ -7,6 +7,7 @@ mod first_jobs;
 mod laws;
 mod spreads;
 
-pub use ages::chain_age;
+pub use ages::{chain_age, greatest_age};
+pub use first_jobs::first_job;
 pub use laws::{ages_are_bounds, chains_have_one_age};
 pub use spreads::{Spread, spread_of};

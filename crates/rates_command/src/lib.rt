@@ -15,6 +15,7 @@ mod unroll;
 
 pub use ending::{RatesEnd, RatesFault, rates_status};
 pub use limits::RATES_LIMIT;
+pub use reading::read_rates;
 pub use repeat::{repeat_plan_run, repeat_run};
 pub use reporting::report_rates;
 pub use unroll::unroll_run;

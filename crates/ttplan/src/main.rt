@@ -3,6 +3,7 @@
 
 ghost use Rattle.command_line.specs.Requests.{IsSound};
 
+mod ages;
 mod files;
 mod hints;
 mod joining;
@@ -14,6 +15,7 @@ mod searches;
 mod version;
 
 use crate::hints::{Said, told};
+pub use age_command::{AgeEnd, age_run, age_status, report_age};
 use command_line::{Request, refuse, request_in};
 pub use command_streams::{End, Fault, Release, SearchFault, Sink, Source, report, status};
 pub use join_command::{JoinEnd, join_run, join_status, report_join};
@@ -59,6 +61,7 @@ fn run(rt: &HostRuntime, threads: &(impl Threads + Wait + Sync), request: Reques
         Request::Why(why) => searches::why(rt, threads, &why),
         Request::Limit(limit) => searches::limit(rt, threads, &limit),
         Request::Margin(margin) => longer::margin(rt, threads, &margin),
+        Request::Age(age) => ages::age(rt, threads, &age),
         Request::Check {
             instance,
             certificate,

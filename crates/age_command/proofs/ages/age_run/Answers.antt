@@ -1,0 +1,6 @@
+use Rattle.age_command.proofs.AgeAnswers.{told_age}
+use Rattle.age_command.proofs.ages.age_run.Goals as goal
+
+pub returns-in-Ok-clause-answer : goal.returns-in-Ok-clause-answer
+returns-in-Ok-clause-answer g c =
+    told_age _ c.args.name.now c.args.beside c.args.asking.now.options c.in-Ok.aged _ _ _ _ _ _ c.tell-end.result c.in-Ok.ensures.judged c.tell-end.ensures

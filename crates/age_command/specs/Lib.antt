@@ -1,0 +1,4 @@
+pub mod Chains
+pub mod Texts
+pub mod Answers
+pub mod Endings

@@ -1,0 +1,2 @@
+pub mod LeastAges
+pub mod Halving
