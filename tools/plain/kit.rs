@@ -351,6 +351,10 @@ pub mod std {
                 self.0.truncate(count);
             }
 
+            pub fn split_off(&mut self, at: usize) -> Result<Vec<T>, AllocError> {
+                Ok(Vec(self.0.split_off(at)))
+            }
+
             pub fn append(&mut self, other: &mut Vec<T>) -> Result<(), AllocError> {
                 self.0.append(&mut other.0);
                 Ok(())

@@ -21,7 +21,7 @@ use Rattle.search_workers.proofs.Goals.{goal_rises}
 use Rattle.search_workers.specs.Gathering.{HasGoal, HaveGoals}
 use Rattle.planner.specs.Crew.{HasLeft, HaveEnded}
 use Rattle.search_workers.proofs.Searching.{first_is, then_is}
-use Rattle.planner.proofs.Crews.{none_below}
+use Rattle.search_workers.proofs.Searching.{none_below}
 
 -- one task more is drained
 pub one_drained : {X : Type 0} (t : X) (drained new old begun : List X) → IsPermutation new (t ∷ old) → IsPermutation old (drained ++ begun) → IsPermutation new ((drained ++ t ∷ []) ++ begun)

@@ -23,17 +23,11 @@ use Rattle.search_workers.specs.Best.{IsBestOf}
 use Rattle.search_workers.specs.Report.{held, unpushed}
 use Rattle.search_workers.specs.declared.job.Job.{Job}
 use Rattle.planner.specs.declared.crew.Crew.{Crew}
-use Rattle.search_workers.specs.Searching.{limit_of, IsFound}
-use Rattle.planner.specs.Crew.{AreSameHands, AreTogether, Gathers, IsBetter, IsJob, IsReportOfJob, tasks_in, told}
-use Rattle.search_workers.proofs.Searching.{first_is, then_is, found_small, one_only}
+use Rattle.search_workers.specs.Searching.{limit_of, IsBetter, IsFound}
+use Rattle.planner.specs.Crew.{AreSameHands, AreTogether, Gathers, IsJob, IsReportOfJob, tasks_in, told}
+use Rattle.search_workers.proofs.Searching.{first_is, then_is, interleave, one_only}
 
 -- ---- lists
-
--- the second and the third of four lists change places
-pub interleave : {X : Type 0} (a b c d : List X) → IsPermutation ((a ++ b) ++ (c ++ d)) ((a ++ c) ++ (b ++ d))
-interleave a b c d =
-    let swapped = first_is _ _ _ (sym (append_assoc b c d)) (then_is _ _ _ (IsPermutation-append_left d (b ++ c) (c ++ b) (IsPermutation-append_comm b c)) (append_assoc c b d)) in
-    first_is _ _ _ (append_assoc a b (c ++ d)) (then_is _ _ _ (IsPermutation-append_right a (b ++ (c ++ d)) (c ++ (b ++ d)) swapped) (sym (append_assoc a c (b ++ d))))
 
 -- two lists, each in another order and in two parts, are together so too
 pub both : {X : Type 0} (xs ys a b c d : List X) → IsPermutation xs (a ++ b) → IsPermutation ys (c ++ d) → IsPermutation (xs ++ ys) ((a ++ c) ++ (b ++ d))
@@ -50,20 +44,6 @@ module _ {J : Type 0} where
   same_snoc (x ∷ gs) (y ∷ hs) g h all one = (all.0, same_snoc gs hs g h all.1 one)
 
 -- ---- the best plan
-
-pub none_below : (i : Instance) (found : Option FoundPlan) → IsInstance i → IsFound i found → limit_of i found ≤ i.cluster.horizon + 1
-none_below i None w is = omega arith
-none_below i (Some best) w is = let small = found_small i best.plan best.delay w is in omega (arith, small)
-
-pub better_none : (i : Instance) (a b : Option FoundPlan) → IsInstance i → a ≡ None → IsFound i b → IsBetter i a b b
-better_none i a b w lacks is =
-    let low = none_below i b w is in
-    record { found = is; first = subst (λ (x : Option FoundPlan). limit_of i b ≤ limit_of i x) (sym lacks) low; second = omega arith }
-
-pub better_first : (i : Instance) (a b : Option FoundPlan) → IsInstance i → b ≡ None → IsFound i a → IsBetter i a b a
-better_first i a b w lacks is =
-    let low = none_below i a w is in
-    record { found = is; first = omega arith; second = subst (λ (x : Option FoundPlan). limit_of i a ≤ limit_of i x) (sym lacks) low }
 
 pub found_of : (i : Instance) (made : List ℕ) (best : Option FoundPlan) → IsBestOf i made best → IsFound i best
 found_of i made None is = tt

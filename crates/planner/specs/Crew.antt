@@ -69,12 +69,6 @@ tasks_in spared rest = held spared rest ++ unpushed rest
 abbrev pub AreTogether : {X : Type 0} → List X → List X → List X → Type 0
 AreTogether a b all = (all ≡ a ++ b) ⊎ (all ≡ b ++ a)
 
--- the better of two plans that may have been found
-pub record IsBetter (i : Instance) (a b best : Option FoundPlan) : Type 0 where
-  pub found : IsFound i best
-  pub first : limit_of i best ≤ limit_of i a
-  pub second : limit_of i best ≤ limit_of i b
-
 -- a plan that may have been found, which is no later than one before it
 pub record IsNoLater (i : Instance) (old new : Option FoundPlan) : Type 0 where
   pub found : IsFound i new

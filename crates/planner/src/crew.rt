@@ -8,15 +8,16 @@ ghost use Rattle.steal_pool.specs.declared.hand.Hand.{Hand};
 ghost use Rattle.search_workers.specs.declared.aims.Aims.{Aims};
 ghost use Rattle.search_workers.specs.declared.job.Job.{Job};
 ghost use Rattle.search_workers.specs.declared.outcome.SolveFault.TheVariants as fault;
-ghost use Rattle.search_workers.specs.Searching.{IsFound};
-ghost use Rattle.planner.specs.Crew.{IsBetter, IsNoLater, IsReportOfJob, AreReportsOf, IsJob, hands_of, budget_of, tasks_in, Gathers};
+ghost use Rattle.search_workers.specs.Searching.{IsBetter, IsFound};
+ghost use Rattle.planner.specs.Crew.{IsNoLater, IsReportOfJob, AreReportsOf, IsJob, hands_of, budget_of, tasks_in, Gathers};
 
 use crate::joining::{keep_roomier, take_in};
 use crate::muster::Muster;
 use certificate::Node;
 use incumbent::{Incumbent, Watch};
 use search_workers::{
-    Aims, Course, FoundPlan, Gate, Job, Piece, Report, Rest, Site, SolveFault, Task, run_worker_in,
+    Aims, Course, FoundPlan, Gate, Job, Piece, Report, Rest, Site, SolveFault, Task, better,
+    run_worker_in,
 };
 use std::alloc::Global;
 use std::marker::{Send, Sync};
@@ -50,18 +51,6 @@ fn done<J: Searched, G: Gate>(
     ensures { IsReportOfJob J.instance course.aims job result }
 {
     run_worker_in(site, word, course, job)
-}
-
-/// The better of two plans, where there is one.
-pub fn better(a: Option<FoundPlan>, b: Option<FoundPlan>) -> Option<FoundPlan>
-    ensures { (i : Instance) → IsInstance i → IsFound i a → IsFound i b → IsBetter i a b result }
-{
-    match (a, b) {
-        (Some(a), Some(b)) if b.delay < a.delay => Some(b),
-        (Some(a), Some(_)) => Some(a),
-        (Some(a), None) => Some(a),
-        (None, b) => b,
-    }
 }
 
 /// Of two plans that may be known the better takes the place of the first.

@@ -18,7 +18,6 @@ ghost use Rattle.search_workers.specs.Searching.{aim_of, limit_of, IsFound, IsWo
 use crate::aiming::course_of;
 use crate::closing::close_all;
 use crate::collecting::searched;
-use crate::crew::better;
 use crate::end_tree::ended;
 use crate::joining::join;
 use crate::leaner::{lean_proof, leaner};
@@ -28,7 +27,7 @@ use certificate::{Cert, Node};
 use good_plan::good_plan;
 use search_workers::{
     Aims, Course, FoundPlan, FreeGate, Gate, Manner, Options, Outcome, Piece, Search, Site,
-    SolveFault, Task, Why, aim, gather_whole, root_bound,
+    SolveFault, Task, Team, Why, aim, better, gather_whole, root_bound,
 };
 use std::alloc::Global;
 use std::marker::{Brand, Sync};
@@ -208,18 +207,17 @@ fn workers_part(budget: u64, manner: Manner) -> u64
 }
 
 /// Works what workers left of a tree, and tells what it shows.
-fn worked_out<G: Gate>(
+fn worked_out<R: Threads + Sync, G: Gate + Sync>(
+    rt: &R,
     site: &Site<'_, G>,
     options: Options,
     course: Course,
     search: Search,
-    part: u64,
     reserve: Reserve,
 ) -> Result<Outcome, SolveFault>
     requires searching { IsSearching site.now.instance.now course.aims search.pieces.items search.tasks.items search.best }
     requires aims { AreAims site.now.instance.now course.aims }
-    requires within { length search.pieces.items ≤ part }
-    requires part { part ≤ options.budget }
+    requires within { length search.pieces.items ≤ workers_part course.manner options.budget }
     ensures answer { IfOk result (IsOutcome site.now.instance.now options course.aims.gap) }
     ensures shows { IfOk result (Shows site.now.instance.now) }
     ensures called_off { IfOk result (λ outcome. IsCalledOff outcome → G.ends site.now.gate.now) }
@@ -232,7 +230,12 @@ fn worked_out<G: Gate>(
     let _nodes = instance.nodes();
     let mut search = search;
     let budget = options.budget;
-    let why = search.go(site, part, budget, course.aims);
+    let part = workers_part(budget, course.manner);
+    let team = Team {
+        rt,
+        threads: options.crew(),
+    };
+    let why = search.go(&team, site, part, budget, course.aims);
     reserve.give_back();
     tell(site, &search.best);
     let outcome = concluded(alloc, instance, options, course.aims, search, why)?;
@@ -277,7 +280,7 @@ pub fn solve_towards<R: Threads + Wait + Sync, G: Gate + Sync>(
             tell(site, &search.best);
             Ok(ended(instance, options, gap, Why::Gap, search.best, cert))
         }
-        None => worked_out(site, options, course, search, part, reserve),
+        None => worked_out(rt, site, options, course, search, reserve),
     }
 }
 

@@ -5,6 +5,7 @@ pub mod Report
 pub mod Gains
 pub mod Run
 pub mod Searching
+pub mod Rounds
 pub mod Ends
 pub mod Workers
 pub use Rattle.branch_tree.specs.Account

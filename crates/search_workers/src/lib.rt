@@ -10,9 +10,11 @@ mod laws;
 mod outcome;
 mod report;
 mod rising;
+mod rounds;
 mod run;
 mod search;
 mod site;
+mod together;
 mod turn;
 mod worker;
 
@@ -22,12 +24,13 @@ pub use branch_tree::{
     work_on,
 };
 pub use ends::{answer, cause};
-pub use found::FoundPlan;
+pub use found::{FoundPlan, better};
 pub use gate::{FreeGate, Gate};
 pub use job::Job;
 pub use laws::spared_tasks_have_no_plan;
 pub use outcome::{MOST_WORKERS, Options, Outcome, SolveFault, Why};
 pub use report::{Ending, Report, Rest};
+pub use rounds::Team;
 pub use search::{Search, aim, limit};
 pub use search_trees::{
     GatherFault, gather, gather_whole, gathered_certificates_have_texts, leaves_close_a_tree,

@@ -1,23 +1,25 @@
 //! The caller's part of a search: it works what is left of the tree.
 
-ghost use Rattle.std.specs.Prelude.{◌≡◌, ◌≤◌, ◌<◌, ◌+◌, ◌++◌, [], ◌∷◌, All, IfSome, None, OnOk, Some, cond, length, vec_len, vec_capacity};
+ghost use Rattle.std.specs.Prelude.{◌≡◌, ◌≤◌, ◌<◌, ◌+◌, ◌++◌, [], ◌∷◌, All, IfSome, IsPermutation, List, None, OnOk, Some, cond, length, vec_len, vec_capacity};
 ghost use Rattle.ttp_model.specs.declared.limits.TheConstants.{MOST_NODES};
 ghost use Rattle.search_workers.specs.Gains.{IsGain};
 ghost use Rattle.search_workers.specs.Task.{Task, IsTask};
 ghost use Rattle.search_workers.specs.Workbench.{IsWorkbenchOf};
 ghost use Rattle.search_workers.specs.declared.aims.Aims.{Aims};
-ghost use Rattle.search_workers.specs.Searching.{aim_of, limit_of, IsCutShort, IsFound, IsWorkedOut, IsSearching};
+ghost use Rattle.search_workers.specs.Searching.{aim_of, limit_of, IsCutShort, IsFound, IsWorkedOut, IsSearching, IsSearchingOf, IsSomeSearch, SearchGoesOn};
 ghost use Rattle.search_workers.specs.declared.outcome.Why.TheVariants as why;
 ghost use Rattle.search_workers.specs.declared.rising.Order.TheVariants as orders;
 
 use crate::found::FoundPlan;
 use crate::outcome::Why;
 use crate::rising::{Order, Rising};
+use crate::rounds::Team;
 use crate::site::Site;
 use crate::turn::{Gain, work_task};
 use crate::{Aims, Gate, Piece, Task, Workbench, goal_of};
 use certificate::Node;
-use std::alloc::Global;
+use std::marker::Sync;
+use std::thread::Threads;
 use ttp_model::{Instance, MOST_NODES, MemoryFault};
 
 /// What is worked, room for its nodes, and what is still open; the best plan that was found, settled.
@@ -87,10 +89,11 @@ impl Search {
         requires one { vec_len self.old.pieces < vec_capacity self.old.pieces }
         requires split { vec_len self.old.tasks + MOST_NODES ≤ vec_capacity self.old.tasks }
         requires worked { (aims : Aims) × (task : Task) × IsGain instance.now (aim_of instance.now aims self.old.best) (record { task = task; piece = piece }) gain }
-        ensures searching { (aims : Aims) (task : Task) → IsGain instance.now (aim_of instance.now aims self.old.best) (record { task = task; piece = piece }) gain
-            → IsSearching instance.now aims self.old.pieces.items (self.old.tasks.items ++ task ∷ []) self.old.best
-            → IsSearching instance.now aims self.new.pieces.items self.new.tasks.items self.new.best }
+        ensures searching { (aims : Aims) (task : Task) (roots : List Task) → IsGain instance.now (aim_of instance.now aims self.old.best) (record { task = task; piece = piece }) gain
+            → IsSearchingOf instance.now aims roots self.old.pieces.items (self.old.tasks.items ++ task ∷ []) self.old.best
+            → IsSearchingOf instance.now aims roots self.new.pieces.items self.new.tasks.items self.new.best }
         ensures one { length self.new.pieces.items ≡ length self.old.pieces.items + 1 }
+        ensures few { length self.new.tasks.items ≤ length self.old.tasks.items + MOST_NODES }
         ensures no_later { limit_of instance.now self.new.best ≤ limit_of instance.now self.old.best }
     {
         self.pieces.push_reserved(piece);
@@ -106,15 +109,16 @@ impl Search {
 
     /// Works the newest task, where there is one, on from the last one: whether it was worked. Where memory is refused, it is
     /// left. A gate is told of that, and of the plan that was found.
-    fn turn<'a, G: Gate>(
+    pub fn turn<'a, G: Gate>(
         &mut self,
         site: &Site<'a, G>,
         bench: &mut Workbench<'a>,
         aims: Aims,
     ) -> bool
-        requires searching { IsSearching site.now.instance.now aims self.old.pieces.items self.old.tasks.items self.old.best }
+        requires searching { IsSomeSearch site.now.instance.now aims self.old }
         requires bench { IsWorkbenchOf site.now.instance.now bench.old }
-        ensures searching { IsSearching site.now.instance.now aims self.new.pieces.items self.new.tasks.items self.new.best }
+        ensures searching { SearchGoesOn site.now.instance.now aims self.old self.new }
+        ensures few { length self.new.tasks.items ≤ length self.old.tasks.items + MOST_NODES }
         ensures one { length self.new.pieces.items ≡ length self.old.pieces.items + cond result 1 0 }
         ensures no_later { limit_of site.now.instance.now self.new.best ≤ limit_of site.now.instance.now self.old.best }
         ensures bench { IsWorkbenchOf site.now.instance.now bench.new }
@@ -143,15 +147,23 @@ impl Search {
     fn bring<'a, G: Gate>(&mut self, site: &Site<'a, G>, rising: &mut Rising<'a>)
         requires tasks { All (IsTask site.now.instance.now) self.old.tasks.items }
         requires bench { IsWorkbenchOf site.now.instance.now rising.old.bench }
-        ensures searching { (aims : Aims) → IsSearching site.now.instance.now aims self.old.pieces.items self.old.tasks.items self.old.best
-            → IsSearching site.now.instance.now aims self.new.pieces.items self.new.tasks.items self.new.best }
+        ensures searching { (aims : Aims) → SearchGoesOn site.now.instance.now aims self.old self.new }
         ensures pieces { self.new.pieces.items ≡ self.old.pieces.items }
         ensures best { self.new.best ≡ self.old.best }
         ensures bench { IsWorkbenchOf site.now.instance.now rising.new.bench }
     {
         let at = rising.pick(site, self.tasks.as_slice());
         let count = self.tasks.len();
-        if at < count {
+        self.bring_last(at, count);
+    }
+
+    /// Makes a task the last of the first so many.
+    pub fn bring_last(&mut self, at: usize, count: usize)
+        ensures moved { IsPermutation self.old.tasks.items self.new.tasks.items }
+        ensures pieces { self.new.pieces.items ≡ self.old.pieces.items }
+        ensures best { self.new.best ≡ self.old.best }
+    {
+        if at < count && count <= self.tasks.len() {
             self.tasks.swap(at, count - 1);
         }
     }
@@ -216,9 +228,17 @@ impl Search {
         self.take_turns(site, &mut bench, &mut rising, turns, order, aims)
     }
 
-    /// Works tasks, the newest first until `part` pieces are made or the gate says that it is late, and then so that the bound rises. It ends where
-    /// `budget` pieces are made, memory is refused, or the gate says that it doesn't go on. Why it ended, where tasks are left.
-    pub fn go<G: Gate>(&mut self, site: &Site<'_, G>, part: u64, budget: u64, aims: Aims) -> Why
+    /// Works tasks, the newest first until `part` pieces are made or the gate says that it is late, and then so that the bound rises, by all threads
+    /// of the team. It ends where `budget` pieces are made, memory is refused, or the gate says that it doesn't go on. Why it ended, where tasks are
+    /// left.
+    pub fn go<R: Threads + Sync, G: Gate + Sync>(
+        &mut self,
+        team: &Team<'_, R>,
+        site: &Site<'_, G>,
+        part: u64,
+        budget: u64,
+        aims: Aims,
+    ) -> Why
         requires searching { IsSearching site.now.instance.now aims self.old.pieces.items self.old.tasks.items self.old.best }
         requires within { length self.old.pieces.items ≤ part }
         requires part { part ≤ budget }
@@ -229,6 +249,9 @@ impl Search {
         ensures no_later { limit_of site.now.instance.now self.new.best ≤ limit_of site.now.instance.now self.old.best }
     {
         if let Some(why) = self.work(site, part, Order::Newest, aims) {
+            return why;
+        }
+        if let Some(why) = self.rise(team, site, budget, aims) {
             return why;
         }
         match self.work(site, budget, Order::Rising, aims) {

@@ -1,7 +1,6 @@
 use Rattle.std.proofs.Common.{Option, sym, subst}
 use Rattle.search_workers.specs.declared.found.FoundPlan.{FoundPlan}
-use Rattle.search_workers.specs.Searching.{IsFound}
-use Rattle.planner.specs.Crew.{IsBetter}
+use Rattle.search_workers.specs.Searching.{IsBetter, IsFound}
 use Rattle.planner.proofs.crew.keep_better.Goals as goal
 
 pub returns : goal.returns

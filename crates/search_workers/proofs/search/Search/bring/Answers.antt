@@ -1,14 +1,8 @@
-use Rattle.std.proofs.Common.{◌≡◌, ◌-◌, ◌<◌, length, arith}
-use Rattle.std.proofs.lemmas.List.Sorted.{IsPermutation-swap}
 use Rattle.search_workers.proofs.Searching.{in_any_order}
 use Rattle.search_workers.proofs.search.Search.bring.Goals as goal
 
-pub returns-then-at-count-clause-searching : goal.returns-then-at-count-clause-searching
-returns-then-at-count-clause-searching g c = λ aims searching.
+pub returns-clause-searching : goal.returns-clause-searching
+returns-clause-searching g c = λ aims roots searching.
     let old = c.args.self.now in
-    let tasks = old.tasks.items in
-    let count : c.len-count.result ≡ length tasks = omega (arith, c.len-count.ensures, old.tasks.ok.0) in
-    let at : c.pick-at.result < length tasks = omega (arith, c.if-at-count.true, count) in
-    let last : c.len-count.result - 1 < length tasks = omega (arith, at, count) in
-    in_any_order c.args.site.now.instance.now aims old.pieces.items tasks c.swap.new.self.items old.best
-    (IsPermutation-swap tasks c.swap.new.self.items c.pick-at.result (c.len-count.result - 1) at last c.swap.ensures.items) searching
+    rw c.bring_last.ensures.pieces (rw c.bring_last.ensures.best
+    (in_any_order c.args.site.now.instance.now aims roots old.pieces.items old.tasks.items c.bring_last.new.self.tasks.items old.best c.bring_last.ensures.moved searching))

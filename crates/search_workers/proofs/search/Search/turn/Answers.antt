@@ -2,8 +2,8 @@ use Rattle.std.proofs.Common.{rules, ℕ, ◌≡◌, ◌++◌, All, List, [], �
 use Rattle.std.proofs.lemmas.List.Elements.{All-contains}
 use Rattle.search_workers.specs.Task.{Task, IsTask}
 use Rattle.search_workers.specs.Gains.{IsGain}
-use Rattle.search_workers.specs.Searching.{limit_of, IsSearching}
-use Rattle.search_workers.proofs.Searching.{last_there}
+use Rattle.search_workers.specs.Searching.{limit_of, IsSearchingOf}
+use Rattle.search_workers.proofs.Searching.{begun, last_there}
 use Rattle.search_workers.proofs.search.Search.turn.Goals as goal
 
 pub work_task-requires-clause-task : goal.work_task-requires-clause-task
@@ -12,22 +12,22 @@ work_task-requires-clause-task g c =
     let t = c.in-Some.task in
     let front = c.pop.new.self.items in
     let popped : c.args.self.now.tasks.items ≡ front ++ t ∷ [] = sym c.make_room.ensures.tasks ∙ (search rules) in
-    All-contains (IsTask i) (front ++ t ∷ []) t (subst (All (IsTask i)) popped c.requires.searching.open_tasks) (last_there front t)
+    All-contains (IsTask i) (front ++ t ∷ []) t (subst (All (IsTask i)) popped c.requires.searching.1.open_tasks) (last_there front t)
 
 pub add-requires-clause-worked : goal.add-requires-clause-worked
 add-requires-clause-worked g c =
     (c.args.aims, c.in-Some.task, subst (λ (n : ℕ). IsGain c.args.site.now.instance.now n (record { task = c.in-Some.task; piece = c.in-Ok.piece }) c.in-Ok.gain) c.aim-goal.ensures c.in-Ok.ensures.made)
 
 pub returns-in-Ok-clause-searching : goal.returns-in-Ok-clause-searching
-returns-in-Ok-clause-searching g c =
+returns-in-Ok-clause-searching g c = λ roots searching.
     let i = c.args.site.now.instance.now in
     let s = c.make_room.new.self in
     let t = c.in-Some.task in
     let front = c.pop.new.self.items in
-    let start : IsSearching i c.args.aims s.pieces.items s.tasks.items s.best = rw c.make_room.ensures.pieces (rw c.make_room.ensures.tasks (rw c.make_room.ensures.best c.requires.searching)) in
+    let start : IsSearchingOf i c.args.aims roots s.pieces.items s.tasks.items s.best = rw c.make_room.ensures.pieces (rw c.make_room.ensures.tasks (rw c.make_room.ensures.best searching)) in
     let popped : s.tasks.items ≡ front ++ t ∷ [] = search rules in
-    let before : IsSearching i c.args.aims s.pieces.items (front ++ t ∷ []) s.best = subst (λ (l : List Task). IsSearching i c.args.aims s.pieces.items l s.best) popped start in
-    c.add.ensures.searching c.args.aims t
+    let before : IsSearchingOf i c.args.aims roots s.pieces.items (front ++ t ∷ []) s.best = subst (λ (l : List Task). IsSearchingOf i c.args.aims roots s.pieces.items l s.best) popped start in
+    c.add.ensures.searching c.args.aims t roots
     (subst (λ (n : ℕ). IsGain i n (record { task = t; piece = c.in-Ok.piece }) c.in-Ok.gain) c.aim-goal.ensures c.in-Ok.ensures.made) before
 
 pub returns-in-Ok-clause-no_later : goal.returns-in-Ok-clause-no_later

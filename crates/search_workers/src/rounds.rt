@@ -1,0 +1,206 @@
+//! How do threads raise the bound of what is left, in rounds?
+
+ghost use Rattle.std.specs.Prelude.{◌≡◌, ◌≤◌, ◌+◌, ◌++◌, List, All, IfOk, IfSome, IsPermutation, None, OnErr, OnOk, Some, false, length, vec_len, vec_capacity};
+ghost use Rattle.search_workers.specs.declared.outcome.Why.TheVariants as why;
+ghost use Rattle.search_workers.specs.Rounds.{HasRoomFor};
+ghost use Rattle.search_workers.specs.Searching.{limit_of, IsCutShort, IsSearching};
+
+use crate::outcome::Why;
+use crate::rising::Frontier;
+use crate::search::{Search, aim};
+use crate::site::Site;
+use crate::together::{Part, Round, Stint};
+use crate::{Aims, Gate, Task};
+use std::alloc::Global;
+use std::marker::Sync;
+use std::thread::Threads;
+use ttp_model::MemoryFault;
+
+/// So many tasks are tried and worked by each thread at most before all come together, and so many more may be open in it then. A try
+/// of what is closed takes some microseconds, and work on a task some milliseconds.
+const TRIES: u64 = 1024;
+
+const TURNS: u64 = 32;
+
+const SPREAD: usize = 2048;
+
+/// After so many rounds one thread works what is left.
+const ROUNDS: u64 = 1 << 32;
+
+/// Who may work side by side.
+#[derive(Drop)]
+pub struct Team<'a, R: Threads> {
+    pub rt: &'a R,
+    /// How many threads, with the caller's own.
+    pub threads: u32,
+}
+
+/// Tasks that are next, and what may be done with them.
+#[derive(Drop)]
+struct Deal {
+    tasks: Vec<Task>,
+    stint: Stint,
+    /// How many others stay.
+    kept: usize,
+}
+
+impl Search {
+    /// Asks for room for what a stint makes, and for leaves of all that is open then; beside it for the nodes of all these.
+    fn make_room_for(&mut self, stint: Stint) -> Result<(), MemoryFault>
+        ensures pieces { self.new.pieces.items ≡ self.old.pieces.items }
+        ensures tasks { self.new.tasks.items ≡ self.old.tasks.items }
+        ensures best { self.new.best ≡ self.old.best }
+        ensures made { OnOk result (vec_len self.new.pieces + stint.turns ≤ vec_capacity self.new.pieces) }
+        ensures left { OnOk result (vec_len self.new.tasks + stint.room ≤ vec_capacity self.new.tasks) }
+    {
+        let made = self.pieces.len();
+        let more = (stint.turns as usize)
+            .saturating_add(self.tasks.len())
+            .saturating_add(stint.room);
+        self.pieces.reserve(more)?;
+        self.room.reserve(made.saturating_add(more))?;
+        self.tasks.reserve(stint.room)?;
+        Ok(())
+    }
+
+    /// Makes the tasks at these places, the newest first, the last ones: how many stay before them.
+    fn bring_all(&mut self, frontier: &mut Frontier, places: &[usize]) -> usize
+        ensures moved { IsPermutation self.old.tasks.items self.new.tasks.items }
+        ensures pieces { self.new.pieces.items ≡ self.old.pieces.items }
+        ensures best { self.new.best ≡ self.old.best }
+        ensures kept { result ≤ vec_len self.new.tasks }
+    {
+        let mut kept = self.tasks.len();
+        for at in places {
+            self.bring_last(*at, kept);
+            kept = kept.saturating_sub(1);
+            frontier.swap(*at, kept);
+        }
+        kept
+    }
+
+    /// Takes out the tasks that are next, with room for what is made of them by so many turns at most.
+    fn deal(
+        &mut self,
+        alloc: Global,
+        frontier: &mut Frontier,
+        threads: u32,
+        turns: u64,
+    ) -> Result<Deal, MemoryFault>
+        ensures pieces { self.new.pieces.items ≡ self.old.pieces.items }
+        ensures best { self.new.best ≡ self.old.best }
+        ensures dealt { IfOk result (λ deal. IsPermutation self.old.tasks.items (self.new.tasks.items ++ deal.tasks.items)) }
+        ensures stays { OnErr result (IsPermutation self.old.tasks.items self.new.tasks.items) }
+        ensures turns { IfOk result (λ deal. deal.stint.turns ≤ turns) }
+        ensures room { IfOk result (HasRoomFor self.new) }
+    {
+        let crew = u64::from(threads);
+        let slice = TRIES.saturating_mul(crew);
+        let places = frontier.places(alloc, self.tasks.len(), slice as usize)?;
+        let kept = self.bring_all(frontier, places.as_slice());
+        let more = SPREAD.saturating_mul(threads as usize);
+        let stint = Stint {
+            threads,
+            turns: turns.min(TURNS.saturating_mul(crew)),
+            tries: frontier.tries(slice),
+            room: (self.tasks.len() - kept).saturating_add(more),
+        };
+        self.make_room_for(stint)?;
+        let tasks = self.tasks.split_off(kept)?;
+        Ok(Deal { tasks, stint, kept })
+    }
+
+    /// Works by all threads tasks that were taken out, as far as each may: whether something was done.
+    fn work_deal<R: Threads + Sync, G: Gate + Sync>(
+        &mut self,
+        team: &Team<'_, R>,
+        site: &Site<'_, G>,
+        frontier: &mut Frontier,
+        deal: Deal,
+        aims: Aims,
+    ) -> bool
+        requires searching { IsSearching site.now.instance.now aims self.old.pieces.items (self.old.tasks.items ++ deal.tasks.items) self.old.best }
+        requires room { HasRoomFor self.old deal }
+        ensures searching { IsSearching site.now.instance.now aims self.new.pieces.items self.new.tasks.items self.new.best }
+        ensures within { vec_len self.new.pieces ≤ vec_len self.old.pieces + deal.stint.turns }
+        ensures none { result ≡ false → vec_len self.new.pieces ≡ vec_len self.old.pieces }
+        ensures no_later { limit_of site.now.instance.now self.new.best ≤ limit_of site.now.instance.now self.old.best }
+    {
+        let _nodes = site.instance.nodes();
+        let Deal { tasks, stint, kept } = deal;
+        let round = Round {
+            rt: team.rt,
+            site,
+            slope: frontier.slope(),
+            aims,
+            best: &self.best,
+        };
+        let Part {
+            search,
+            closed,
+            tries,
+        } = round.share(stint, tasks);
+        frontier.take_in(kept, closed, tries);
+        let worked = search.pieces.len() as u64;
+        self.take_in(search);
+        worked.saturating_add(tries) > 0
+    }
+
+    /// Works by all threads the tasks that are next, as far as each may, but no more than so many: whether something was done.
+    fn round<R: Threads + Sync, G: Gate + Sync>(
+        &mut self,
+        team: &Team<'_, R>,
+        site: &Site<'_, G>,
+        frontier: &mut Frontier,
+        turns: u64,
+        aims: Aims,
+    ) -> bool
+        requires searching { IsSearching site.now.instance.now aims self.old.pieces.items self.old.tasks.items self.old.best }
+        ensures searching { IsSearching site.now.instance.now aims self.new.pieces.items self.new.tasks.items self.new.best }
+        ensures within { length self.new.pieces.items ≤ length self.old.pieces.items + turns }
+        ensures none { result ≡ false → length self.new.pieces.items ≡ length self.old.pieces.items }
+        ensures no_later { limit_of site.now.instance.now self.new.best ≤ limit_of site.now.instance.now self.old.best }
+    {
+        match self.deal(site.alloc, frontier, team.threads, turns) {
+            Ok(deal) => self.work_deal(team, site, frontier, deal, aims),
+            Err(_) => false,
+        }
+    }
+
+    /// Works what is open by all threads of a team so that the bound rises, until `budget` pieces are made. Why it ended before. A team of one works nothing.
+    pub fn rise<R: Threads + Sync, G: Gate + Sync>(
+        &mut self,
+        team: &Team<'_, R>,
+        site: &Site<'_, G>,
+        budget: u64,
+        aims: Aims,
+    ) -> Option<Why>
+        requires searching { IsSearching site.now.instance.now aims self.old.pieces.items self.old.tasks.items self.old.best }
+        requires within { length self.old.pieces.items ≤ budget }
+        ensures searching { IsSearching site.now.instance.now aims self.new.pieces.items self.new.tasks.items self.new.best }
+        ensures within { length self.new.pieces.items ≤ budget }
+        ensures cut { IfSome result (IsCutShort budget self.new.pieces.items) }
+        ensures called_off { result ≡ Some why.CalledOff → G.ends site.now.gate.now }
+        ensures no_later { limit_of site.now.instance.now self.new.best ≤ limit_of site.now.instance.now self.old.best }
+    {
+        if team.threads < 2 {
+            return None;
+        }
+        let turns = budget - self.pieces.len() as u64;
+        let most = aim(site.instance, aims, &self.best);
+        let mut frontier = Frontier::new(site.alloc, site.instance, most, turns);
+        for _round in 0..ROUNDS {
+            let left = budget.saturating_sub(self.pieces.len() as u64);
+            if left == 0 || self.tasks.is_empty() {
+                return None;
+            }
+            if !site.gate.goes_on(0) {
+                return Some(Why::CalledOff);
+            }
+            if !self.round(team, site, &mut frontier, left, aims) && site.gate.goes_on(0) {
+                return Some(Why::Memory);
+            }
+        }
+        None
+    }
+}
