@@ -1,4 +1,5 @@
 use Rattle.std.proofs.Common.{◌∙◌, ◌<◌, length, arith, subst, ap}
+use Rattle.std.proofs.lemmas.Bool.{le-leb, leb-true}
 use Rattle.ttp_model.specs.declared.parts.Process.{Process}
 use Rattle.ttp_model.specs.Instance.{Instance, process_at}
 use Rattle.age_variants.proofs.AgedProcesses.{process_is}
@@ -14,4 +15,7 @@ returns c =
     let is = process_is a.rates.now a.chain c.args.age c.requires.aging.there c.requires.less p c.aged_deadline.result below c.aged_deadline.ensures in
     let release = ap (λ (process : Process). process.release) here ∙ ap (λ (process : Process). process.release) is in
     let wcet = ap (λ (process : Process). process.wcet) here ∙ ap (λ (process : Process). process.wcet) is in
-    (λ test. omega (arith, test, release, wcet, c.aged_deadline.ensures), λ can. omega (arith, can, release, wcet, c.aged_deadline.ensures))
+    (
+      λ test. omega (arith, leb-true _ _ test, release, wcet, c.aged_deadline.ensures),
+      λ can. le-leb _ _ (omega (arith, can, release, wcet, c.aged_deadline.ensures)),
+    )
