@@ -49,7 +49,8 @@ module _ (rho : Rates) (x : ℕ) (w : IsRates rho) (i : IsInstance (unrolled rho
   run_of k below = (last_there rho x w inside, below)
 
   -- when a job of the last process ends that starts at its release
-  earliest_is : (k : ℕ) → k < count → earliest_end rho last k ≡ (process_in rho (place_of rho (Job last k))).release + (process_in rho (place_of rho (Job last k))).wcet
+  earliest_is : (k : ℕ) → k < count
+      → earliest_end rho last k ≡ (process_in rho (place_of rho (Job last k))).release + (process_in rho (place_of rho (Job last k))).wcet
   earliest_is k below = omega (arith, released_from rho last k (run_of k below), ticks_are rho (Job last k) (run_of k below))
 
   some_end : (k : ℕ) → k < count → 1 ≤ earliest_end rho last k
@@ -109,7 +110,8 @@ module _ (rho : Rates) (x : ℕ) (w : IsRates rho) (i : IsInstance (unrolled rho
               let below : k < count = subst (λ (q : ℕ). k < jobs_of rho q) (sym same) there.1 in
               let room = room_of_last k below in
               let is = earliest_is k below in
-              subst (λ (q : ℕ). (process_in rho (place_of rho (Job q k))).release + (process_in rho (place_of rho (Job q k))).wcet ≤ latest_end rho chain age k) same (omega (arith, room, is))
+              let here = λ (q : ℕ). process_in rho (place_of rho (Job q k)) in
+              subst (λ (q : ℕ). (here q).release + (here q).wcet ≤ latest_end rho chain age k) same (omega (arith, room, is))
       has_room (Store m place) there =
           omega (arith, i.deadlines (place_of rho (Store m place)) (place_inside rho (Store m place) there), store_to_end rho x age inside less m place there)
 
@@ -119,7 +121,8 @@ module _ (rho : Rates) (x : ℕ) (w : IsRates rho) (i : IsInstance (unrolled rho
           let most = (i.ranges (spot.AtProcess (place_of rho (Job p k))) (place_inside rho (Job p k) there)).deadline in
           omega (arith, by, most, job_to_end rho x age inside less p k there, to_end_by rho p k there)
       small_run (Store m place) there =
-          omega (arith, (i.ranges (spot.AtProcess (place_of rho (Store m place))) (place_inside rho (Store m place) there)).deadline, store_to_end rho x age inside less m place there)
+          let small = i.ranges (spot.AtProcess (place_of rho (Store m place))) (place_inside rho (Store m place) there) in
+          omega (arith, small.deadline, store_to_end rho x age inside less m place there)
 
       room_at : (at : ℕ) → at < length (unrolled_processes rho) → (process_in rho at).release + (process_in rho at).wcet ≤ (process_in other at).deadline
       room_at at there =
@@ -146,7 +149,8 @@ module _ (rho : Rates) (x : ℕ) (w : IsRates rho) (i : IsInstance (unrolled rho
       pub rules_aged : IsInstance (aged rho x age)
       rules_aged =
           let variant = timed_variant (unrolled rho) (horizon_of rho) (unrolled_processes other) (differ_in_times rho x age) in
-          subst IsInstance (other_is rho x age) (rules_varied (unrolled rho) (timed (unrolled rho) (horizon_of rho) (unrolled_processes other)) variant i windows)
+          let times = timed (unrolled rho) (horizon_of rho) (unrolled_processes other) in
+          subst IsInstance (other_is rho x age) (rules_varied (unrolled rho) times variant i windows)
 
     -- and with less some job has none
     pub lacks_room : (plan : Plan) → age < window_age rho x → ¬ ((at : ℕ) → at < length (unrolled_processes rho) → CanEndInTime (aged rho x age) at)

@@ -44,7 +44,8 @@ module _ (rho : Rates) (x age : ℕ) (inside : x < length rho.chains) (less : ag
   job_to_end p k there =
       ap (λ (at : ℕ). (process_in other at).deadline) (sym (place_same rho x age (Job p k))) ∙ to_end_by other p k (run_same rho x age (Job p k) there)
 
-  pub store_to_end : (m place : ℕ) → IsRun rho (Store m place) → (process_in other (place_of rho (Store m place))).deadline ≡ (process_in rho (place_of rho (Store m place))).deadline
+  pub store_to_end : (m place : ℕ) → IsRun rho (Store m place)
+      → (process_in other (place_of rho (Store m place))).deadline ≡ (process_in rho (place_of rho (Store m place))).deadline
   store_to_end m place there =
       ap (λ (at : ℕ). (process_in other at).deadline) (sym (place_same rho x age (Store m place)))
       ∙ (to_store_by other m place (run_same rho x age (Store m place) there) ∙ (horizon_same rho x age ∙ sym (to_store_by rho m place there)))
@@ -56,7 +57,8 @@ module _ (rho : Rates) (x age : ℕ) (inside : x < length rho.chains) (less : ag
     last_aged k there below is =
         let run : IsRun rho (Job (last_of chain) k) = (there, below) in
         let place : at ≡ place_of rho (Job (last_of chain) k) = omega (arith, is, begins, index_is rho (last_of chain) k) in
-        let here : (process_in other (place_of rho (Job (last_of chain) k))).deadline ≡ min (process_in rho (place_of rho (Job (last_of chain) k))).deadline (latest_end rho chain age k)
+        let own = (process_in rho (place_of rho (Job (last_of chain) k))).deadline in
+        let here : (process_in other (place_of rho (Job (last_of chain) k))).deadline ≡ min own (latest_end rho chain age k)
         = omega (arith, job_to_end (last_of chain) k run, to_end_by rho (last_of chain) k run, last_deadline rho x age inside less k) in
         subst (λ (a : ℕ). (process_in other a).deadline ≡ min (process_in rho a).deadline (latest_end rho chain age k)) (sym place) here
 
@@ -77,18 +79,21 @@ module _ (rho : Rates) (x age : ℕ) (inside : x < length rho.chains) (less : ag
         subst (λ (a : ℕ). (process_in other a).deadline ≡ (process_in rho a).deadline) run.2 (kept_deadline run.0 run.1 run.2 none)
 
   -- with its deadline it is the process that it is
-  pub process_is : (at d : ℕ) → at < length (unrolled_processes rho) → d ≡ (process_in other at).deadline → record (process_in rho at) { deadline = d } ≡ process_in other at
+  pub process_is : (at d : ℕ) → at < length (unrolled_processes rho) → d ≡ (process_in other at).deadline
+      → record (process_in rho at) { deadline = d } ≡ process_in other at
   process_is at d there is =
       ap (λ (deadline : ℕ). record (process_in rho at) { deadline = deadline }) is
       ∙ ap (λ (p : Process). record p { deadline = (process_in other at).deadline }) (sym (undated_at rho x age at there))
 
   -- all of them
-  pub all_aged : (processes : List Process) → processes ≡ map (process_in other) (range_with_len 0 (length (unrolled_processes rho))) → processes ≡ unrolled_processes other
+  pub all_aged : (processes : List Process) → processes ≡ map (process_in other) (range_with_len 0 (length (unrolled_processes rho)))
+      → processes ≡ unrolled_processes other
   all_aged processes are = are ∙ sym (fill_by_all (process_in other) (unrolled_processes other) (length (unrolled_processes rho)) no_process
       (differ_in_times rho x age).all (λ p below. refl))
 
   -- and so the instance
   pub tables_are : (cluster : Cluster) (nodes : List Node) (processes : List Process) (links : List Link) (messages : List Message)
-      → cluster ≡ (unrolled rho).cluster → nodes ≡ (unrolled rho).nodes → processes ≡ unrolled_processes other → links ≡ (unrolled rho).links → messages ≡ (unrolled rho).messages
+      → cluster ≡ (unrolled rho).cluster → nodes ≡ (unrolled rho).nodes → processes ≡ unrolled_processes other
+      → links ≡ (unrolled rho).links → messages ≡ (unrolled rho).messages
       → instance_with cluster nodes processes links messages ≡ aged rho x age
   tables_are cluster nodes processes links messages a b c d e = rw (a, b, c, d, e) (other_is rho x age)

@@ -1,5 +1,5 @@
--- In a plan that repeats rightly for ever each process of a chain starts behind the end of the one before it whose value it reads. So the last one ends behind the
--- release of the first one, and no chain has an age of 0.
+-- In a plan that repeats rightly for ever each process of a chain starts behind the end of the one before it whose value it reads. So the last
+-- one ends behind the release of the first one, and no chain has an age of 0.
 use Rattle.std.proofs.Common.{◌≡◌, ◌∙◌, ℕ, zero, suc, ◌+◌, ◌-◌, ◌*◌, ◌/◌, ◌%◌, ◌<◌, ◌≤◌, ◌⊎◌, ◌||◌, ◌&&◌, ◌==◌, Bool, true, false, List, [], ◌∷◌, if◌then◌else◌, length, slice_index, slice_index_or, All, Contains, arith, inl, inr, refl, sym, ap, subst}
 use Rattle.std.specs.List.{list_any}
 use Rattle.std.proofs.Math.Nat.{div-mul-le_self}
@@ -111,7 +111,8 @@ module _ (rho : Rates) (plan : Plan) (w : IsRates rho) (i : IsInstance (unrolled
           | inl now ↦
               let in_one : ReadsIn rho p q 0 c j c k = subst (λ (z : ℕ). ReadsIn rho p q 0 c j z k) now.0 reading in
               let sent : ReadsIn rho (message_at rho m).sender q (message_at rho m).delay c j c k
-              = subst (λ (z : ℕ). ReadsIn rho (message_at rho m).sender q z c j c k) (sym none) (subst (λ (z : ℕ). ReadsIn rho z q 0 c j c k) (sym sender) in_one) in
+              = subst (λ (z : ℕ). ReadsIn rho (message_at rho m).sender q z c j c k) (sym none)
+              (subst (λ (z : ℕ). ReadsIn rho z q 0 c j c k) (sym sender) in_one) in
               let it : Receives rho m q c j c k = record { there = there; receiver = receives; read = sent } in
               let ready = endless.ready m q c j c k it in
               let arrived = endless.arrived m q c j k it in
@@ -121,7 +122,8 @@ module _ (rho : Rates) (plan : Plan) (w : IsRates rho) (i : IsInstance (unrolled
         ]
 
     -- some link or some message leads from the one to the other
-    by_either : leads rho p q 0 ≡ true → Reads rho p q 0 (job_from_all rho q c j) (job_from_all rho p d k) → ends_at rho plan d (Job p k) ≤ starts_at rho plan c (Job q j)
+    by_either : leads rho p q 0 ≡ true → Reads rho p q 0 (job_from_all rho q c j) (job_from_all rho p d k)
+        → ends_at rho plan d (Job p k) ≤ starts_at rho plan c (Job q j)
     by_either led reads = elim (or_cases _ _ led) [
       | inl link ↦
           let some = Any-from_list_any (λ (l : RatesLink). (l.before == p) && (l.after == q) && (l.delay == 0)) rho.links link in
@@ -132,7 +134,8 @@ module _ (rho : Rates) (plan : Plan) (w : IsRates rho) (i : IsInstance (unrolled
           (ap (λ (l : RatesLink). l.after) is ∙ eqb-true _ _ parts.1)
           (ap (λ (l : RatesLink). l.delay) is ∙ eqb-true _ _ parts.2) reads
       | inr message ↦
-          let some = Any-from_list_any (λ (m : RatesMessage). (m.sender == p) && (m.delay == 0) && list_any (λ (r : ℕ). r == q) m.receivers) rho.messages message in
+          let test = λ (m : RatesMessage). (m.sender == p) && (m.delay == 0) && list_any (λ (r : ℕ). r == q) m.receivers in
+          let some = Any-from_list_any test rho.messages message in
           let is : message_at rho some.0 ≡ some.1 = get_or_default rho.messages some.0 no_message some.1 some.2 ∙ some.3 in
           let parts = three (some.1.sender == p) (some.1.delay == 0) (list_any (λ (r : ℕ). r == q) some.1.receivers) some.4 in
           by_message some.0 some.2
@@ -147,7 +150,8 @@ module _ (rho : Rates) (plan : Plan) (w : IsRates rho) (i : IsInstance (unrolled
             (some.0, some.2, get_or_default receivers some.0 q some.1 some.2 ∙ some.3 ∙ eqb-true _ _ some.4)
 
     -- what is read has ended when its reader starts
-    pub ends_before : ReadsOf rho p q → Reads rho p q (wait_of rho p q) (job_from_all rho q c j) (job_from_all rho p d k) → ends_at rho plan d (Job p k) ≤ starts_at rho plan c (Job q j)
+    pub ends_before : ReadsOf rho p q → Reads rho p q (wait_of rho p q) (job_from_all rho q c j) (job_from_all rho p d k)
+        → ends_at rho plan d (Job p k) ≤ starts_at rho plan c (Job q j)
     ends_before some reads = elim (two (leads rho p q 1)) [
       | inl late ↦ by_delay (with_wait (leads rho p q 1) late _ _ reads)
       | inr now ↦ elim (or_cases (leads rho p q 0) (leads rho p q 1) some) [
@@ -194,7 +198,8 @@ module _ (rho : Rates) (plan : Plan) (w : IsRates rho) (i : IsInstance (unrolled
       let all = all_there rho x w inside in
       let jobs = some_last rho x w inside plan in
       let has = has_late_age rho plan w chain some all 0 jobs in
-      let at = later chain.through all (read_along rho chain.through (w.chains x inside)) (last_of chain) (last_is chain.through some) has.cycle has.job has.first has.there has.carries in
+      let along = read_along rho chain.through (w.chains x inside) in
+      let at = later chain.through all along (last_of chain) (last_is chain.through some) has.cycle has.job has.first has.there has.carries in
       let first = first_of chain in
       let there : first < length rho.processes = all 0 0 some in
       let released = endless.released at.0 first at.1 (there, at.2) in

@@ -1,14 +1,14 @@
 -- With another bound on a chain's age a cluster keeps all its rules.
-use Rattle.std.proofs.Common.{◌≡◌, ◌≢◌, ◌∙◌, ℕ, ◌<◌, ◌≤◌, length, arith, inl, inr, refl, sym, ap}
+use Rattle.std.proofs.Common.{◌≡◌, ◌≢◌, ◌∙◌, ℕ, ◌*◌, ◌<◌, ◌≤◌, Option, IfSome, length, arith, inl, inr, refl, sym, ap, subst}
 use Rattle.std.proofs.lemmas.Bool.{cases_eq}
 use Rattle.std.proofs.lemmas.List.{get_or-set_other, get_or-set_same, length-set}
 use Rattle.rates_model.specs.declared.parts.Chain.{Chain}
 use Rattle.rates_model.specs.declared.error.RatesPart.TheVariants as part
 use Rattle.rates_model.specs.declared.error.RatesError.{RatesError}
-use Rattle.rates_model.specs.declared.error.RatesError.TheVariants.{Length, NoReceiver, Through, NameForm, NameRepeated, NoSuchIndex, OutOfRange, NoRoom, NothingRead, LongCycle, LongRound}
+use Rattle.rates_model.specs.declared.error.RatesError.TheVariants.{Length, NoReceiver, Through, NameForm, NameRepeated, NoSuchIndex, OutOfRange, NoRoom, NothingRead, ShortRound, LongCycle, LongRound}
 use Rattle.rates_model.specs.declared.error.RatesPlace.TheVariants.{AtCluster, AtNode, AtProcess, AtLink, AtMessage, AtChain}
 use Rattle.rates_model.specs.Rates.{Rates, chain_at, no_chain}
-use Rattle.rates_model.specs.Cycles.{cycle}
+use Rattle.rates_model.specs.Cycles.{cycle, round_of}
 use Rattle.rates_model.specs.Refusals.{IsRatesRefusal}
 use Rattle.rates_model.specs.Rules.{AreTicks, IsRates, KeepsRatesRule, Cycles, Indices, Names, NewNames, Ranges, Rounds}
 use Rattle.job_ages.specs.Bounds.{with_age}
@@ -109,6 +109,7 @@ module _ (rho : Rates) (x age : ℕ) where
         ranges = in_range;
         rooms = λ p inside. let room = w.rooms p inside in record { ends = room.ends; within = room.within };
         chains = λ c inside. rw (through_kept c) (w.chains c (inside_old c inside));
+        slots = w.slots;
         cycles = omega (arith, w.cycles, cycle_kept);
         rounds = omega (arith, w.rounds, cycle_kept);
       }
@@ -128,10 +129,14 @@ not_refused rho w (NoSuchIndex at) is = is.1.fails (w.indices at)
 not_refused rho w (OutOfRange at) is = is.1.fails (w.ranges at)
 not_refused rho w (NoRoom p) is = is.1.fails (w.rooms p is.1.within)
 not_refused rho w (NothingRead c place) is = is.1.unread (w.chains c is.1.within place is.1.behind is.1.there)
+not_refused rho w (ShortRound slots round) is =
+    let within = subst (λ (asked : Option ℕ). IfSome asked (λ r. round_of rho ≤ rho.cluster.finer * r)) is.1.asked w.slots in
+    omega (arith, is.1.slots_are, is.1.longer, within)
 not_refused rho w LongCycle is = is.1 w.cycles
 not_refused rho w (LongRound round cycle_ticks) is = omega (arith, is.1.round_is, is.1.cycle_is, is.1.longer, w.rounds)
 
 -- nor are tables that are such a cluster
 pub aged_not_refused : (rho tables : Rates) (x age : ℕ) (error : RatesError) → IsRates rho → x < length rho.chains → AreTicks age → tables ≡ with_age rho x age
     → ¬ IsRatesRefusal tables error
-aged_not_refused rho tables x age error w there ticks is refused = not_refused (with_age rho x age) (rules_kept rho x age there w ticks) error (rw is at refused)
+aged_not_refused rho tables x age error w there ticks is refused =
+    not_refused (with_age rho x age) (rules_kept rho x age there w ticks) error (rw is at refused)

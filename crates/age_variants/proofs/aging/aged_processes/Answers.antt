@@ -20,5 +20,6 @@ returns c =
     let asked = c.requires.aging in
     let listed = c.processes-p-end.ensures.value ∙ ap (λ (i : Instance). i.processes) asked.base in
     let all : c.loop-p.p ≡ length (unrolled_processes a.rates.now) = omega (arith, c.loop-p-test.false, c.loop-p.auto.p-end, ap length listed) in
-    let are = subst (λ (n : ℕ). c.loop-p.processes.items ≡ map (process_at (aged a.rates.now a.chain c.args.age)) (range_with_len 0 n)) all c.loop-p.invariant in
+    let at = process_at (aged a.rates.now a.chain c.args.age) in
+    let are = subst (λ (n : ℕ). c.loop-p.processes.items ≡ map at (range_with_len 0 n)) all c.loop-p.invariant in
     all_aged a.rates.now a.chain c.args.age asked.there c.requires.less c.loop-p.processes.items are
