@@ -2,6 +2,7 @@
 //! theirs, and its contract doesn't follow from a weaker one. Those of `edges` and most of `two_channels` call nothing, and say which
 //! plans are valid; one of `variants` says of which instance the rules are kept.
 
+mod ages;
 mod changes;
 mod choices;
 mod decisions;
@@ -25,6 +26,7 @@ mod two_channels;
 mod variants;
 mod windows;
 
+pub use ages::just_as_old_as_its_bound;
 pub use changes::starts_before_and_after;
 pub use choices::{
     both_orders_of_a_pair, channel_taken_back, channel_that_was_fixed, channels_of_a_free_message,
