@@ -1,6 +1,5 @@
 -- With which ages each job has room by itself, so that the instance keeps all rules, and with which no plan is valid.
-use Rattle.std.proofs.Common.{◌≡◌, ◌≢◌, ◌∙◌, ℕ, ◌+◌, ◌-◌, ◌*◌, ◌<◌, ◌≤◌, length, map, slice_index, arith, inl, inr, refl, sym, subst}
-use Rattle.std.proofs.lemmas.Bool.{cases_eq, cases_lt}
+use Rattle.std.proofs.Common.{◌≡◌, ℕ, ◌+◌, ◌<◌, ◌≤◌, length, arith, refl, sym, subst}
 use Rattle.ttp_model.specs.declared.error.Place.TheVariants as spot
 use Rattle.ttp_model.specs.declared.parts.Process.{Process}
 use Rattle.ttp_model.specs.declared.plan.Plan.{Plan}
@@ -11,15 +10,15 @@ use Rattle.ttp_model.specs.Rules.{CanEndInTime, IsInstance}
 use Rattle.ttp_model.specs.Plans.{IsValid}
 use Rattle.ttp_model.proofs.ValidPlans.{greatest_each, greatest_reached}
 use Rattle.rates_model.specs.declared.parts.Chain.{Chain}
-use Rattle.rates_model.specs.Rates.{Rates, chain_at, period_of, process_at}
-use Rattle.rates_model.specs.Cycles.{cycle, horizon_of, jobs_of}
-use Rattle.rates_model.specs.Ages.{cycles_back, last_of}
+use Rattle.rates_model.specs.Rates.{Rates, chain_at}
+use Rattle.rates_model.specs.Cycles.{horizon_of, jobs_of}
+use Rattle.rates_model.specs.Ages.{last_of}
 use Rattle.rates_model.specs.Rules.{IsRates}
-use Rattle.unrolled_jobs.specs.Times.{carried_release, job_deadline}
+use Rattle.unrolled_jobs.specs.Times.{job_deadline}
 use Rattle.unrolled_jobs.specs.Unrolled.{unrolled, unrolled_processes}
 use Rattle.endless_schedules.specs.Runs.{IsRun, Job, Run, Store, place_of}
 use Rattle.endless_schedules.proofs.Deadlines.{in_time_tells}
-use Rattle.endless_schedules.proofs.RunPlaces.{place_inside, released_from, run_at, ticks_are, to_end_by, to_store_by}
+use Rattle.endless_schedules.proofs.RunPlaces.{place_inside, released_from, run_at, ticks_are, to_end_by}
 use Rattle.instance_variants.specs.Variants.{HasWindows, timed, with_times}
 use Rattle.instance_variants.proofs.VariedPlans.{timed_variant}
 use Rattle.instance_variants.proofs.VariedRules.{rules_varied}

@@ -1,5 +1,5 @@
 -- The processes of the instance with another bound on a chain's age, one by one.
-use Rattle.std.proofs.Common.{◌≡◌, ◌≢◌, ◌∙◌, ℕ, ◌+◌, ◌-◌, ◌*◌, ◌<◌, ◌≤◌, List, length, map, min, arith, inl, inr, refl, sym, ap, subst}
+use Rattle.std.proofs.Common.{◌≡◌, ◌≢◌, ◌∙◌, ℕ, ◌+◌, ◌<◌, ◌≤◌, List, length, map, min, arith, inl, inr, refl, sym, ap, subst}
 use Rattle.std.specs.List.{range_with_len}
 use Rattle.std.proofs.lemmas.Bool.{cases_eq}
 use Rattle.std.proofs.lemmas.List.FromFn.{fill_by_all}
@@ -13,7 +13,7 @@ use Rattle.ttp_model.specs.Instance.{Instance, instance_with, no_process}
 use Rattle.ttp_model.specs.Totals.{total}
 use Rattle.rates_model.specs.declared.parts.Chain.{Chain}
 use Rattle.rates_model.specs.Rates.{Rates, chain_at}
-use Rattle.rates_model.specs.Cycles.{horizon_of, jobs_of}
+use Rattle.rates_model.specs.Cycles.{jobs_of}
 use Rattle.rates_model.specs.Ages.{last_of}
 use Rattle.unrolled_jobs.specs.Stores.{job_index}
 use Rattle.unrolled_jobs.specs.Times.{job_deadline}
@@ -21,7 +21,7 @@ use Rattle.unrolled_jobs.specs.Unrolled.{unrolled, unrolled_processes}
 use Rattle.endless_schedules.specs.Runs.{IsRun, Job, Run, Store, place_of}
 use Rattle.endless_schedules.proofs.RunPlaces.{run_at, to_end_by, to_store_by}
 use Rattle.job_ages.specs.Bounds.{with_age}
-use Rattle.job_ages.proofs.OtherBounds.{differ_in_times, horizon_same, other_is, place_same, run_same, undated, undated_at}
+use Rattle.job_ages.proofs.OtherBounds.{differ_in_times, horizon_same, other_is, place_same, run_same, undated_at}
 use Rattle.age_variants.specs.Aging.{aged, latest_end}
 use Rattle.age_variants.proofs.AgedDeadlines.{last_deadline, other_deadline}
 

@@ -1,9 +1,9 @@
 -- In a plan that repeats rightly for ever each process of a chain starts behind the end of the one before it whose value it reads. So the last
 -- one ends behind the release of the first one, and no chain has an age of 0.
-use Rattle.std.proofs.Common.{◌≡◌, ◌∙◌, ℕ, zero, suc, ◌+◌, ◌-◌, ◌*◌, ◌/◌, ◌%◌, ◌<◌, ◌≤◌, ◌⊎◌, ◌||◌, ◌&&◌, ◌==◌, Bool, true, false, List, [], ◌∷◌, if◌then◌else◌, length, slice_index, slice_index_or, All, Contains, arith, inl, inr, refl, sym, ap, subst}
+use Rattle.std.proofs.Common.{◌≡◌, ◌∙◌, ℕ, zero, suc, ◌+◌, ◌-◌, ◌*◌, ◌/◌, ◌%◌, ◌<◌, ◌≤◌, ◌⊎◌, ◌&&◌, ◌==◌, Bool, true, false, List, [], ◌∷◌, if◌then◌else◌, length, slice_index, All, Contains, arith, inl, inr, refl, sym, ap, subst}
 use Rattle.std.specs.List.{list_any}
 use Rattle.std.proofs.Math.Nat.{div-mul-le_self}
-use Rattle.std.proofs.lemmas.Bool.{and_parts, cases_eq, eqb-true, or_cases}
+use Rattle.std.proofs.lemmas.Bool.{eqb-true, or_cases}
 use Rattle.std.proofs.lemmas.List.{get_or_default}
 use Rattle.std.proofs.lemmas.List.Folds.{Any-from_list_any}
 use Rattle.std.proofs.lemmas.Nat.{div-add-mod', mod_below}
@@ -16,9 +16,9 @@ use Rattle.rates_model.specs.declared.parts.RatesMessage.{RatesMessage}
 use Rattle.rates_model.specs.Rates.{Rates, chain_at, link_at, message_at, no_link, no_message, period_of, process_at}
 use Rattle.rates_model.specs.Cycles.{cycle, jobs_of}
 use Rattle.rates_model.specs.Reads.{Reads, job_from_all, last_begun, leads}
-use Rattle.rates_model.specs.Ages.{carried, cycles_back, first_of, last_of, release_from_all, wait_of}
+use Rattle.rates_model.specs.Ages.{first_of, last_of, wait_of}
 use Rattle.rates_model.specs.Rules.{IsRates, ReadsOf}
-use Rattle.rates_model.proofs.Periods.{jobs_whole, period_some}
+use Rattle.rates_model.proofs.Periods.{jobs_whole}
 use Rattle.unrolled_jobs.specs.Unrolled.{unrolled}
 use Rattle.endless_schedules.specs.Carried.{Carries}
 use Rattle.endless_schedules.specs.Endless.{IsEndless, ReadsIn, Receives}
@@ -28,7 +28,7 @@ use Rattle.endless_schedules.proofs.ReadJobs.{read_tells}
 use Rattle.endless_schedules.proofs.RunPlaces.{place_inside, ticks_are}
 use Rattle.job_ages.proofs.ForEver.{has_late_age, some_job}
 use Rattle.age_variants.specs.Aging.{late_age, own_age}
-use Rattle.age_variants.proofs.OwnAges.{all_there, last_there, own_is, some_last, some_through}
+use Rattle.age_variants.proofs.OwnAges.{all_there, some_last, some_through}
 
 -- whether or not
 two : (b : Bool) → (b ≡ true) ⊎ (b ≡ false)

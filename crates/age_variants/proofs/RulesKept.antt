@@ -1,5 +1,5 @@
 -- With another bound on a chain's age a cluster keeps all its rules.
-use Rattle.std.proofs.Common.{◌≡◌, ◌≢◌, ◌∙◌, ℕ, ◌*◌, ◌<◌, ◌≤◌, Option, IfSome, length, arith, inl, inr, refl, sym, ap, subst}
+use Rattle.std.proofs.Common.{◌≡◌, ◌≢◌, ◌∙◌, ℕ, ◌*◌, ◌<◌, ◌≤◌, Option, IfSome, length, arith, inl, inr, refl, ap, subst}
 use Rattle.std.proofs.lemmas.Bool.{cases_eq}
 use Rattle.std.proofs.lemmas.List.{get_or-set_other, get_or-set_same, length-set}
 use Rattle.rates_model.specs.declared.parts.Chain.{Chain}
@@ -10,7 +10,7 @@ use Rattle.rates_model.specs.declared.error.RatesPlace.TheVariants.{AtCluster, A
 use Rattle.rates_model.specs.Rates.{Rates, chain_at, no_chain}
 use Rattle.rates_model.specs.Cycles.{cycle, round_of}
 use Rattle.rates_model.specs.Refusals.{IsRatesRefusal}
-use Rattle.rates_model.specs.Rules.{AreTicks, IsRates, KeepsRatesRule, Cycles, Indices, Names, NewNames, Ranges, Rounds}
+use Rattle.rates_model.specs.Rules.{AreTicks, IsRates, KeepsRatesRule, Indices, Names, NewNames, Ranges}
 use Rattle.job_ages.specs.Bounds.{with_age}
 
 module _ (rho : Rates) (x age : ℕ) where

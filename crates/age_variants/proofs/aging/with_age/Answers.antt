@@ -13,7 +13,7 @@ built-requires c =
     let links = c.in_ok-links.ensures.items ∙ c.links.ensures.value ∙ ap (λ (i : Instance). i.links) base in
     let messages = c.in_ok-messages.ensures ∙ c.messages.ensures.value ∙ ap (λ (i : Instance). i.messages) base in
     let is = tables_are a.rates.now a.chain c.args.age c.requires.aging.there c.requires.less c.cluster-cluster.result.now c.in_ok-nodes.nodes.items
-        c.in_ok-processes.processes.items c.in_ok-links.links.items c.in_ok-messages.messages.items cluster nodes c.in_ok-processes.ensures links messages in
+    c.in_ok-processes.processes.items c.in_ok-links.links.items c.in_ok-messages.messages.items cluster nodes c.in_ok-processes.ensures links messages in
     subst IsInstance (sym is) c.requires.rules
 
 pub returns : goal.returns
@@ -25,5 +25,5 @@ returns c =
     let links = c.in_ok-links.ensures.items ∙ c.links.ensures.value ∙ ap (λ (i : Instance). i.links) base in
     let messages = c.in_ok-messages.ensures ∙ c.messages.ensures.value ∙ ap (λ (i : Instance). i.messages) base in
     let is = tables_are a.rates.now a.chain c.args.age c.requires.aging.there c.requires.less c.cluster-cluster.result.now c.in_ok-nodes.nodes.items
-        c.in_ok-processes.processes.items c.in_ok-links.links.items c.in_ok-messages.messages.items cluster nodes c.in_ok-processes.ensures links messages in
+    c.in_ok-processes.processes.items c.in_ok-links.links.items c.in_ok-messages.messages.items cluster nodes c.in_ok-processes.ensures links messages in
     subst (λ (it : Instance). IfOk c.built.result (λ other. other ≡ it)) is c.built.ensures

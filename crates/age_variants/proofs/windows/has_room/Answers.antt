@@ -14,8 +14,7 @@ returns c =
     let here = c.process_at-process.ensures.value ∙ ap (λ (i : Instance). process_at i p) base in
     let is = process_is a.rates.now a.chain c.args.age c.requires.aging.there c.requires.less p c.aged_deadline.result below c.aged_deadline.ensures in
     let release = ap (λ (process : Process). process.release) here ∙ ap (λ (process : Process). process.release) is in
-    let wcet = ap (λ (process : Process). process.wcet) here ∙ ap (λ (process : Process). process.wcet) is in
-    (
+    let wcet = ap (λ (process : Process). process.wcet) here ∙ ap (λ (process : Process). process.wcet) is in (
       λ test. omega (arith, leb-true _ _ test, release, wcet, c.aged_deadline.ensures),
       λ can. le-leb _ _ (omega (arith, can, release, wcet, c.aged_deadline.ensures)),
     )
