@@ -1,11 +1,9 @@
 //! How do threads raise the bound of what is left, in rounds?
 
-ghost use Rattle.std.specs.Prelude.{◌≡◌, ◌≤◌, ◌+◌, ◌++◌, List, All, IfOk, IfSome, IsPermutation, None, OnErr, OnOk, Some, false, length, vec_len, vec_capacity};
-ghost use Rattle.search_workers.specs.declared.outcome.Why.TheVariants as why;
+ghost use Rattle.std.specs.Prelude.{◌≡◌, ◌≤◌, ◌+◌, ◌++◌, List, All, IfOk, IsPermutation, OnErr, OnOk, length, vec_len, vec_capacity};
 ghost use Rattle.search_workers.specs.Rounds.{HasRoomFor};
-ghost use Rattle.search_workers.specs.Searching.{limit_of, IsCutShort, IsSearching};
+ghost use Rattle.search_workers.specs.Searching.{limit_of, IsSearching};
 
-use crate::outcome::Why;
 use crate::rising::Frontier;
 use crate::search::{Search, aim};
 use crate::site::Site;
@@ -16,13 +14,17 @@ use std::marker::Sync;
 use std::thread::Threads;
 use ttp_model::MemoryFault;
 
-/// So many tasks are tried and worked by each thread at most before all come together, and so many more may be open in it then. A try
-/// of what is closed takes some microseconds, and work on a task some milliseconds.
-const TRIES: u64 = 1024;
+/// So many tasks are worked by each thread at most before all come together, which takes about half a second: each thread begins a round with
+/// a propagation of all decisions on its first task.
+const TURNS: u64 = 512;
 
-const TURNS: u64 = 32;
+/// So many are worked at most for each task that is next: where few are, their children are soon shared by all threads.
+const TURNS_EACH: u64 = 16;
 
-const SPREAD: usize = 2048;
+/// So many are tried meanwhile by each thread at most, and so many more may be open in it then.
+const TRIES: u64 = 16 * TURNS;
+
+const SPREAD: usize = 8192;
 
 /// After so many rounds one thread works what is left.
 const ROUNDS: u64 = 1 << 32;
@@ -98,19 +100,22 @@ impl Search {
         let slice = TRIES.saturating_mul(crew);
         let places = frontier.places(alloc, self.tasks.len(), slice as usize)?;
         let kept = self.bring_all(frontier, places.as_slice());
+        let dealt = self.tasks.len() - kept;
         let more = SPREAD.saturating_mul(threads as usize);
         let stint = Stint {
             threads,
-            turns: turns.min(TURNS.saturating_mul(crew)),
+            turns: turns
+                .min(TURNS.saturating_mul(crew))
+                .min(TURNS_EACH.saturating_mul(dealt as u64)),
             tries: frontier.tries(slice),
-            room: (self.tasks.len() - kept).saturating_add(more),
+            room: dealt.saturating_add(more),
         };
         self.make_room_for(stint)?;
         let tasks = self.tasks.split_off(kept)?;
         Ok(Deal { tasks, stint, kept })
     }
 
-    /// Works by all threads tasks that were taken out, as far as each may: whether something was done.
+    /// Works by all threads tasks that were taken out, as far as each may: whether something was worked or tried.
     fn work_deal<R: Threads + Sync, G: Gate + Sync>(
         &mut self,
         team: &Team<'_, R>,
@@ -123,7 +128,6 @@ impl Search {
         requires room { HasRoomFor self.old deal }
         ensures searching { IsSearching site.now.instance.now aims self.new.pieces.items self.new.tasks.items self.new.best }
         ensures within { vec_len self.new.pieces ≤ vec_len self.old.pieces + deal.stint.turns }
-        ensures none { result ≡ false → vec_len self.new.pieces ≡ vec_len self.old.pieces }
         ensures no_later { limit_of site.now.instance.now self.new.best ≤ limit_of site.now.instance.now self.old.best }
     {
         let _nodes = site.instance.nodes();
@@ -146,7 +150,7 @@ impl Search {
         worked.saturating_add(tries) > 0
     }
 
-    /// Works by all threads the tasks that are next, as far as each may, but no more than so many: whether something was done.
+    /// Works by all threads the tasks that are next, as far as each may, but no more than so many: whether something was worked or tried.
     fn round<R: Threads + Sync, G: Gate + Sync>(
         &mut self,
         team: &Team<'_, R>,
@@ -158,7 +162,6 @@ impl Search {
         requires searching { IsSearching site.now.instance.now aims self.old.pieces.items self.old.tasks.items self.old.best }
         ensures searching { IsSearching site.now.instance.now aims self.new.pieces.items self.new.tasks.items self.new.best }
         ensures within { length self.new.pieces.items ≤ length self.old.pieces.items + turns }
-        ensures none { result ≡ false → length self.new.pieces.items ≡ length self.old.pieces.items }
         ensures no_later { limit_of site.now.instance.now self.new.best ≤ limit_of site.now.instance.now self.old.best }
     {
         match self.deal(site.alloc, frontier, team.threads, turns) {
@@ -167,40 +170,35 @@ impl Search {
         }
     }
 
-    /// Works what is open by all threads of a team so that the bound rises, until `budget` pieces are made. Why it ended before. A team of one works nothing.
+    /// Works what is open by all threads of a team so that the bound rises, until `budget` pieces are made, none is open, the gate says that it doesn't
+    /// go on, or memory is refused. A team of one works nothing.
     pub fn rise<R: Threads + Sync, G: Gate + Sync>(
         &mut self,
         team: &Team<'_, R>,
         site: &Site<'_, G>,
         budget: u64,
         aims: Aims,
-    ) -> Option<Why>
+    )
         requires searching { IsSearching site.now.instance.now aims self.old.pieces.items self.old.tasks.items self.old.best }
         requires within { length self.old.pieces.items ≤ budget }
         ensures searching { IsSearching site.now.instance.now aims self.new.pieces.items self.new.tasks.items self.new.best }
         ensures within { length self.new.pieces.items ≤ budget }
-        ensures cut { IfSome result (IsCutShort budget self.new.pieces.items) }
-        ensures called_off { result ≡ Some why.CalledOff → G.ends site.now.gate.now }
         ensures no_later { limit_of site.now.instance.now self.new.best ≤ limit_of site.now.instance.now self.old.best }
     {
         if team.threads < 2 {
-            return None;
+            return;
         }
         let turns = budget - self.pieces.len() as u64;
         let most = aim(site.instance, aims, &self.best);
         let mut frontier = Frontier::new(site.alloc, site.instance, most, turns);
         for _round in 0..ROUNDS {
             let left = budget.saturating_sub(self.pieces.len() as u64);
-            if left == 0 || self.tasks.is_empty() {
-                return None;
+            if left == 0 || !site.gate.goes_on(0) {
+                return;
             }
-            if !site.gate.goes_on(0) {
-                return Some(Why::CalledOff);
-            }
-            if !self.round(team, site, &mut frontier, left, aims) && site.gate.goes_on(0) {
-                return Some(Why::Memory);
+            if !self.round(team, site, &mut frontier, left, aims) {
+                return;
             }
         }
-        None
     }
 }

@@ -251,9 +251,7 @@ impl Search {
         if let Some(why) = self.work(site, part, Order::Newest, aims) {
             return why;
         }
-        if let Some(why) = self.rise(team, site, budget, aims) {
-            return why;
-        }
+        self.rise(team, site, budget, aims);
         match self.work(site, budget, Order::Rising, aims) {
             Some(why) => why,
             None => Why::Budget,
