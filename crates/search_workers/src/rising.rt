@@ -178,16 +178,25 @@ impl<'a> Rising<'a> {
         Ok(None)
     }
 
-    /// The place of the task that is to be worked next, where there is one, as `pick_open` says, and else the newest.
+    /// The place of the task that is to be worked next: the newest that propagation doesn't close at the goal, which rises as long as
+    /// all are closed there. It is the newest of all where the goal has come to the delay that has to be beaten, where no more may be
+    /// tried, or where memory is refused. Who follows the search is asked before each try. The last task takes the place of this one, which is
+    /// no longer left.
     pub fn pick<G: Gate>(&mut self, site: &Site<'a, G>, tasks: &[Task]) -> usize
         requires tasks { All (IsTask site.now.instance.now) tasks.now }
         requires bench { IsWorkbenchOf site.now.instance.now self.old.bench }
         ensures { IsWorkbenchOf site.now.instance.now self.new.bench }
     {
-        match self.pick_open(site, tasks) {
-            Some(at) => at,
-            None => tasks.len().saturating_sub(1),
+        let newest = tasks.len().saturating_sub(1);
+        if self.tries == 0 {
+            return newest;
         }
+        let at = match self.open_task(site, tasks) {
+            Ok(Some(at)) => at,
+            Ok(None) | Err(_) => newest,
+        };
+        self.forget(at);
+        at
     }
 
     /// Nothing is known of a task any more, and the last one takes its place.
@@ -199,24 +208,27 @@ impl<'a> Rising<'a> {
         }
     }
 
-    /// The place of the newest task that propagation doesn't close at the goal, which rises as long as all are closed there; of the newest
-    /// of all where the goal has come to the delay that has to be beaten. None where no more may be tried, or memory is refused. Who
-    /// follows the search is asked before each try. The last task takes the place of this one, which is no longer left.
+    /// The newest of the tasks that some thread has that isn't closed at the goal to which it has come, and which is no longer left there; none where
+    /// all are, where no more may be tried, or where memory is refused. None is tried where the goal has come to the delay that has to be beaten.
     pub fn pick_open<G: Gate>(&mut self, site: &Site<'a, G>, tasks: &[Task]) -> Option<usize>
         requires tasks { All (IsTask site.now.instance.now) tasks.now }
         requires bench { IsWorkbenchOf site.now.instance.now self.old.bench }
         ensures { IsWorkbenchOf site.now.instance.now self.new.bench }
     {
-        if self.tries == 0 && self.slope.step < STEPS {
+        let step = self.slope.step;
+        if step >= STEPS {
+            return tasks.len().checked_sub(1);
+        }
+        if self.closed.resize(tasks.len(), 0).is_err() {
             return None;
         }
-        let at = match self.open_task(site, tasks) {
-            Ok(Some(at)) => at,
-            Ok(None) => tasks.len().saturating_sub(1),
-            Err(_) => return None,
-        };
-        self.forget(at);
-        Some(at)
+        match self.newest_open(site, tasks, step) {
+            Ok(Some(at)) => {
+                self.forget(at);
+                Some(at)
+            }
+            Ok(None) | Err(_) => None,
+        }
     }
 
     /// Of each of so many tasks the last step at which it was closed, and how many may still be tried.

@@ -18,9 +18,6 @@ use ttp_model::MemoryFault;
 /// a propagation of all decisions on its first task.
 const TURNS: u64 = 512;
 
-/// So many are worked at most for each task that is next: where few are, their children are soon shared by all threads.
-const TURNS_EACH: u64 = 16;
-
 /// So many are tried meanwhile by each thread at most, and so many more may be open in it then.
 const TRIES: u64 = 16 * TURNS;
 
@@ -104,9 +101,7 @@ impl Search {
         let more = SPREAD.saturating_mul(threads as usize);
         let stint = Stint {
             threads,
-            turns: turns
-                .min(TURNS.saturating_mul(crew))
-                .min(TURNS_EACH.saturating_mul(dealt as u64)),
+            turns: turns.min(TURNS.saturating_mul(crew)),
             tries: frontier.tries(slice),
             room: dealt.saturating_add(more),
         };
