@@ -26,12 +26,12 @@ pub trait Gate {
     /// A worker is done with the task of this name, of which it was told before: it is worked, or memory was refused.
     fn leave(&self, worker: usize, name: &Name);
 
-    /// A task is worked, by this worker or, as the first of them, by the caller's thread: it has so many children, which are known from now on,
-    /// and none where a leaf closes it. A worker has pushed them, and then says that it is done.
+    /// A task is worked, by this worker or, as the first of them, by a thread that works what workers left: it has so many children, which are
+    /// known from now on, and none where a leaf closes it. A worker has pushed them, and then says that it is done.
     fn worked(&self, _worker: usize, _children: u32) {}
 
     /// Whether a worker goes on. It is asked before each task that it may take, and ends where it doesn't. The caller's thread asks as the first of
-    /// them: before a plan is looked for, before it works what workers left, and before each task that is tried so that the bound rises.
+    /// them, before a plan is looked for, and so do threads that work what workers left, before each task that they work or try.
     fn goes_on(&self, _worker: usize) -> bool
         ensures { result ≡ false → ends self.now }
     {

@@ -36,6 +36,24 @@ pub struct Slope {
 }
 
 impl Slope {
+    /// Always at the delay that has to be beaten.
+    fn flat(most: u32) -> Self {
+        Slope {
+            least: most,
+            most,
+            step: 1,
+        }
+    }
+
+    /// From the bound of the whole tree; flat where memory is refused for that.
+    fn from_root(alloc: Global, instance: &Instance, most: u32) -> Self {
+        let least = root_bound(alloc, instance, most).unwrap_or(most);
+        Slope {
+            least,
+            ..Slope::flat(most)
+        }
+    }
+
     /// The goal of a step, in ticks.
     fn goal(self, step: u32) -> u32 {
         let gap = self.most.saturating_sub(self.least) as u64;
@@ -63,17 +81,12 @@ impl<'a> Rising<'a> {
     pub fn new(alloc: Global, instance: &'a Instance, order: Order, most: u32, turns: u64) -> Self
         ensures { IsWorkbenchOf instance.now result.bench }
     {
-        let (least, tries) = match order {
-            Order::Newest => (most, 0),
+        let (slope, tries) = match order {
+            Order::Newest => (Slope::flat(most), 0),
             Order::Rising => (
-                root_bound(alloc, instance, most).unwrap_or(most),
+                Slope::from_root(alloc, instance, most),
                 turns.saturating_mul(TRIES),
             ),
-        };
-        let slope = Slope {
-            least,
-            most,
-            step: 1,
         };
         Rising::at(alloc, slope, tries)
     }
@@ -270,13 +283,8 @@ pub struct Frontier {
 impl Frontier {
     /// Begins at the bound of the whole tree, for so many turns.
     pub fn new(alloc: Global, instance: &Instance, most: u32, turns: u64) -> Self {
-        let least = root_bound(alloc, instance, most).unwrap_or(most);
         Frontier {
-            slope: Slope {
-                least,
-                most,
-                step: 1,
-            },
+            slope: Slope::from_root(alloc, instance, most),
             closed: Vec::new(alloc),
             tries: turns.saturating_mul(TRIES),
         }

@@ -21,7 +21,7 @@ const TURNS: u64 = 512;
 /// So many are tried meanwhile by each thread at most, and so many more may be open in it then.
 const TRIES: u64 = 16 * TURNS;
 
-const SPREAD: usize = 8192;
+const SPREAD: usize = 4096;
 
 /// After so many rounds one thread works what is left.
 const ROUNDS: u64 = 1 << 32;
@@ -165,6 +165,44 @@ impl Search {
         }
     }
 
+    /// Works what is open by all threads of a team, in rounds, until `budget` pieces are made, the gate says that it doesn't go on, or nothing is done
+    /// in one.
+    fn take_rounds<R: Threads + Sync, G: Gate + Sync>(
+        &mut self,
+        team: &Team<'_, R>,
+        site: &Site<'_, G>,
+        budget: u64,
+        aims: Aims,
+    )
+        requires searching { IsSearching site.now.instance.now aims self.old.pieces.items self.old.tasks.items self.old.best }
+        requires within { length self.old.pieces.items ≤ budget }
+        ensures searching { IsSearching site.now.instance.now aims self.new.pieces.items self.new.tasks.items self.new.best }
+        ensures within { length self.new.pieces.items ≤ budget }
+        ensures no_later { limit_of site.now.instance.now self.new.best ≤ limit_of site.now.instance.now self.old.best }
+    {
+        let turns = budget - self.pieces.len() as u64;
+        let most = aim(site.instance, aims, &self.best);
+        let mut frontier = Frontier::new(site.alloc, site.instance, most, turns);
+        for _round in 0..ROUNDS {
+            let left = budget.saturating_sub(self.pieces.len() as u64);
+            if left == 0 || !site.gate.goes_on(0) {
+                return;
+            }
+            if !self.round(team, site, &mut frontier, left, aims) {
+                return;
+            }
+        }
+    }
+
+    /// Puts what is open in the order of the tree: side by side there the steps that close one task mostly close the next.
+    fn sort_tasks(&mut self)
+        ensures moved { IsPermutation self.old.tasks.items self.new.tasks.items }
+        ensures pieces { self.new.pieces.items ≡ self.old.pieces.items }
+        ensures best { self.new.best ≡ self.old.best }
+    {
+        self.tasks.sort_unstable_by(|a, b| a.name().cmp(b.name()));
+    }
+
     /// Works what is open by all threads of a team so that the bound rises, until `budget` pieces are made, none is open, the gate says that it doesn't
     /// go on, or memory is refused. A team of one works nothing.
     pub fn rise<R: Threads + Sync, G: Gate + Sync>(
@@ -183,17 +221,7 @@ impl Search {
         if team.threads < 2 {
             return;
         }
-        let turns = budget - self.pieces.len() as u64;
-        let most = aim(site.instance, aims, &self.best);
-        let mut frontier = Frontier::new(site.alloc, site.instance, most, turns);
-        for _round in 0..ROUNDS {
-            let left = budget.saturating_sub(self.pieces.len() as u64);
-            if left == 0 || !site.gate.goes_on(0) {
-                return;
-            }
-            if !self.round(team, site, &mut frontier, left, aims) {
-                return;
-            }
-        }
+        self.take_rounds(team, site, budget, aims);
+        self.sort_tasks();
     }
 }

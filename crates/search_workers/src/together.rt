@@ -1,6 +1,6 @@
 //! What do several threads make of tasks side by side, each of a part of them?
 
-ghost use Rattle.std.specs.Prelude.{◌≡◌, ◌≤◌, ◌<◌, ◌+◌, ◌-◌, ◌++◌, [], List, All, IfOk, None, length, vec_len, vec_capacity};
+ghost use Rattle.std.specs.Prelude.{◌≡◌, ◌≤◌, ◌<◌, ◌+◌, ◌-◌, ◌++◌, [], List, All, IfSome, None, length, vec_len, vec_capacity};
 ghost use denote.Param.Send.{IsSync};
 ghost use Rattle.ttp_model.specs.Instance.{Instance};
 ghost use Rattle.ttp_model.specs.Rules.{IsInstance};
@@ -20,7 +20,7 @@ use std::alloc::Global;
 use std::marker::Sync;
 use std::mem;
 use std::thread::{Threads, join_mut};
-use ttp_model::{MOST_NODES, MemoryFault};
+use ttp_model::MOST_NODES;
 
 /// What some threads may do before they come together.
 #[derive(Clone, Copy)]
@@ -112,6 +112,23 @@ impl Search {
         }
     }
 
+    /// Makes the newest task that is open at the goal to which it has come the last, where there is one: whether there is.
+    fn bring_open<'a, G: Gate>(&mut self, site: &Site<'a, G>, rising: &mut Rising<'a>) -> bool
+        requires tasks { All (IsTask site.now.instance.now) self.old.tasks.items }
+        requires bench { IsWorkbenchOf site.now.instance.now rising.old.bench }
+        ensures searching { (aims : Aims) → SearchGoesOn site.now.instance.now aims self.old self.new }
+        ensures pieces { vec_len self.new.pieces ≡ vec_len self.old.pieces }
+        ensures tasks { vec_len self.new.tasks ≡ vec_len self.old.tasks }
+        ensures bench { IsWorkbenchOf site.now.instance.now rising.new.bench }
+    {
+        let Some(at) = rising.pick_open(site, self.tasks.as_slice()) else {
+            return false;
+        };
+        let count = self.tasks.len();
+        self.bring_last(at, count);
+        true
+    }
+
     /// Works the newest task that is open at the goal to which it has come, where there is one and room for its children: whether it was worked.
     fn turn_below<'a, G: Gate>(
         &mut self,
@@ -131,15 +148,11 @@ impl Search {
         ensures bench { IsWorkbenchOf site.now.instance.now bench.new }
         ensures rising { IsWorkbenchOf site.now.instance.now rising.new.bench }
     {
-        let count = self.tasks.len();
-        if !site.gate.goes_on(0) || room - count < MOST_NODES {
-            return false;
+        let has_room = room - self.tasks.len() >= MOST_NODES;
+        if has_room && site.gate.goes_on(0) && self.bring_open(site, rising) {
+            return self.turn(site, bench, aims);
         }
-        let Some(at) = rising.pick_open(site, self.tasks.as_slice()) else {
-            return false;
-        };
-        self.bring_last(at, count);
-        self.turn(site, bench, aims)
+        false
     }
 
     /// Works the newest tasks that are open at the goal to which it has come, until none is, or as many as may be.
@@ -198,14 +211,19 @@ impl Search {
 }
 
 impl Part {
-    /// Room for what threads make that may do so much.
-    fn with_room(alloc: Global, stint: Stint) -> Result<Self, MemoryFault>
-        ensures none { IfOk result (λ part. IsEmpty part.search) }
-        ensures pieces { IfOk result (λ part. stint.turns ≤ vec_capacity part.search.pieces) }
-        ensures tasks { IfOk result (λ part. stint.room ≤ vec_capacity part.search.tasks) }
+    /// Room for what threads make that may do so much; none where memory is refused.
+    fn with_room(alloc: Global, stint: Stint) -> Option<Self>
+        ensures none { IfSome result (λ part. IsEmpty part.search) }
+        ensures pieces { IfSome result (λ part. stint.turns ≤ vec_capacity part.search.pieces) }
+        ensures tasks { IfSome result (λ part. stint.room ≤ vec_capacity part.search.tasks) }
     {
-        let pieces = Vec::with_capacity(alloc, stint.turns as usize)?;
-        let tasks = Vec::with_capacity(alloc, stint.room)?;
+        let Ok(pieces) = Vec::with_capacity(alloc, stint.turns as usize) else {
+            return None;
+        };
+        let Ok(tasks) = Vec::with_capacity(alloc, stint.room) else {
+            drop(pieces);
+            return None;
+        };
         let search = Search {
             pieces,
             room: Vec::new(alloc),
@@ -213,7 +231,7 @@ impl Part {
             spared: 0,
             best: None,
         };
-        Ok(Part {
+        Some(Part {
             search,
             closed: Vec::new(alloc),
             tries: 0,
@@ -313,14 +331,17 @@ impl<'r, 'a, R: Threads + Sync, G: Gate + Sync> Round<'r, 'a, R, G> {
         if stint.threads < 2 || tasks.len() < 2 {
             return self.alone(stint, tasks);
         }
-        let Ok(whole) = Part::with_room(self.site.alloc, stint) else {
+        let Some(whole) = Part::with_room(self.site.alloc, stint) else {
             return self.alone(stint, tasks);
         };
         let (at, low, high) = stint.halves(tasks.len());
         let mut front = tasks;
         match front.split_off(at) {
             Ok(back) => self.apart(whole, low, front, high, back),
-            Err(_) => self.alone(stint, front),
+            Err(_) => {
+                drop(whole);
+                self.alone(stint, front)
+            }
         }
     }
 

@@ -1,6 +1,6 @@
 use Rattle.std.proofs.Common.{◌≤◌, length}
 use Rattle.search_workers.specs.Searching.{limit_of, IsSearching}
-use Rattle.search_workers.proofs.search.Search.rise.Given as goal
+use Rattle.search_workers.proofs.search.Search.take_rounds.Given as goal
 
 abbrev pub invariant-loop-round : goal.invariant-loop-round
 invariant-loop-round g l = record {
