@@ -14,8 +14,8 @@ use std::marker::Sync;
 use std::thread::Threads;
 use ttp_model::MemoryFault;
 
-/// So many tasks are worked by each thread at most before all come together, which takes about half a second: each thread begins a round with
-/// a propagation of all decisions on its first task.
+/// So many tasks are worked by each thread at most before all come together. Each begins a round with a propagation of all decisions on its first
+/// task: in a processor second four threads work 460 subtrees of `chains256` with 32, and 690 with 512, where one thread alone works 990.
 const TURNS: u64 = 512;
 
 /// So many are tried meanwhile by each thread at most, and so many more may be open in it then.
