@@ -285,7 +285,7 @@ pub fn solve_towards<R: Threads + Wait + Sync, G: Gate + Sync>(
 }
 
 /// Searches for the shortest plan of an instance, as `solve` does, and calls a gate as workers go on: `start` once for each,
-/// first, and `enter` and `leave` for each task that they work. The caller's thread calls none of these. Both tell the gate of each task that is
+/// first, and `enter` and `leave` for each task that they work. Who works what they leave calls none of these. Both tell the gate of each task that is
 /// worked by `worked`, and of each plan that they find by `found`, and ask it by `goes_on` before they take a task. The plan that is answered is told last. Where it says no to all, no
 /// further subtree is worked, and what is left is closed as with a spent budget. Whatever it says, the answer's bounds hold.
 pub fn solve_with<R: Threads + Wait + Sync, G: Gate + Sync>(
@@ -309,7 +309,7 @@ pub fn solve_with<R: Threads + Wait + Sync, G: Gate + Sync>(
 }
 
 /// Searches for the shortest plan of an instance, by workers in threads of their own: works at most `budget` subtrees, what the
-/// workers leave on the caller's thread, and closes those that are left then as well as propagation can. With a budget of 0
+/// workers leave on the caller's thread, the last quarter by as many threads, and closes those that are left then as well as propagation can. With a budget of 0
 /// nothing is worked and no plan is looked for. Where the root leaves at most 32 to choose the search is plain: no plan is looked for before it
 /// either, every subtree is worked, and the certificate is the tree that was worked.
 ///
