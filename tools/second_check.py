@@ -2237,7 +2237,7 @@ def repeated_lines(rates, plan_text):
     """How a cluster with several periods repeats, and what a plan means in all its cycles; raises Refused."""
     unrolled = Unrolled(rates)
     length, cycle = rates.round, rates.cycle
-    yield from ("ttrepeat 1", "finer 1", f"period {cycle}", f"round {length}", f"rounds {rates.rounds}", f"gap {cycle - unrolled.end}")
+    yield from ("ttrepeat 1", f"finer {rates.finer}", f"period {cycle}", f"round {length}", f"rounds {rates.rounds}", f"gap {cycle - unrolled.end}")
     if cycle > unrolled.end:
         dividing = [ticks for ticks in range(1, cycle + 1) if cycle % ticks == 0]
         yield f"near {max(ticks for ticks in dividing if ticks <= length)} {min(ticks for ticks in dividing if ticks >= length)}"

@@ -60,7 +60,8 @@ fn repeat_request<'a>(given: Given<'_, 'a>) -> Result<Request<'a>, Misuse<'a>>
 {
     let rates = given.text(RATES)?;
     let plan = given.text_if_any(UNROLLED_PLAN);
-    Ok(Request::Repeat { rates, plan })
+    let form = given.form(FORMAT)?;
+    Ok(Request::Repeat { rates, plan, form })
 }
 
 /// The check of a certificate.

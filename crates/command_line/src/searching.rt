@@ -139,14 +139,8 @@ pub fn margin_request<'a>(alloc: Global, given: Given<'_, 'a>) -> Result<Request
 pub fn age_request<'a>(alloc: Global, given: Given<'_, 'a>) -> Result<Request<'a>, Misuse<'a>>
     ensures { IfOk result IsSound }
 {
-    let question = question_of(
-        alloc,
-        given,
-        RATES,
-        CERT_OF_LESS,
-        WITH_LESS,
-        AnswerForm::Text,
-    )?;
+    let form = given.form(FORMAT)?;
+    let question = question_of(alloc, given, RATES, CERT_OF_LESS, WITH_LESS, form)?;
     let chain = given.text(CHAIN)?;
     Ok(Request::Age(Age { question, chain }))
 }

@@ -6,8 +6,7 @@ use crate::options::{
     LATE, LOSSES, NEW_INSTANCE, NEW_PLAN, NODE, OLD_INSTANCE, OLD_PLAN, PERIOD_TICKS, PERMILLE,
     PLAN, PROCESSES, PROGRESS, RATES, REDUCED, ROUNDS, RUNNERS, SCHEDULE_FORMAT, SEARCH_BUDGET,
     SEARCHED, SEARCHES_PROGRESS, SECONDS, START, TABLE, UNROLLED_PLAN, UNTIL, USED, WIDTH,
-    WITH_LESS, WITH_MORE, WITHIN,
-    WORKERS,
+    WITH_LESS, WITH_MORE, WITHIN, WORKERS,
 };
 use crate::rows::Row;
 
@@ -196,7 +195,7 @@ const UNROLL: &CommandRow = &CommandRow {
 const REPEAT: &CommandRow = &CommandRow {
     name: "repeat",
     about: "Prints how a cluster of several rates repeats, and what holds of a valid plan of it in all cycles",
-    rows: &[RATES, UNROLLED_PLAN],
+    rows: &[RATES, UNROLLED_PLAN, FORMAT],
     after: Some(
         "It prints a line `ttrepeat 1`, and behind it `finer` with how many ticks are one of RATES, `period` and `round` with their ticks, `rounds` with how many whole rounds the cycle holds, and `gap` with the ticks behind the last of them, in which the bus is silent; where that isn't 0, `near A B`: the longest round of no more ticks that divides the cycle, and the shortest of no fewer. Then stand `processes`, `links` and `messages`, with how many the instance of one cycle has.\n\nWith a PLAN of that instance, which has to be valid, more lines follow, and each number is the greatest over all jobs of all cycles:\n  `process NAME JITTER RESPONSE`: by how much its starts vary, from the begins of its periods, and how long after its release it ends\n  `chain NAME AGE BOUND`: how old what it carries is at its end, and how old that may be",
     ),
@@ -214,6 +213,7 @@ const AGE: &CommandRow = &CommandRow {
         SECONDS,
         WITH_LESS,
         CERT_OF_LESS,
+        FORMAT,
         SEARCHES_PROGRESS,
     ],
     after: Some(

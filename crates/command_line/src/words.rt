@@ -163,6 +163,7 @@ pub enum Request<'a> {
     Repeat {
         rates: &'a str,
         plan: Option<&'a str>,
+        form: AnswerForm,
     },
     /// Search the instance of a file.
     Solve(Search<'a>),

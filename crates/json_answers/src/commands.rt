@@ -10,6 +10,8 @@ pub struct CommandLines {
     pub head: &'static str,
     /// What its first line may be; where it has none all lines are items.
     pub answers: &'static [LineRow],
+    /// What further lines are whose words are members of the object.
+    pub values: &'static [LineRow],
     /// What its other lines are, each of which is an item of a list.
     pub items: &'static [LineRow],
     /// What this list is called.
@@ -28,6 +30,7 @@ pub const VERIFY: CommandLines = CommandLines {
         begins: "valid",
         keys: &["delay"],
     }],
+    values: &[],
     items: &[],
     list: "",
     late: &[],
@@ -52,6 +55,7 @@ pub const JUDGE: CommandLines = CommandLines {
             keys: &["low", "best"],
         },
     ],
+    values: &[],
     items: &[],
     list: "",
     late: &[],
@@ -76,6 +80,7 @@ pub const EXPLAIN: CommandLines = CommandLines {
             keys: &["nodes", "_", "processes", "_", "links", "_", "messages"],
         },
     ],
+    values: &[],
     items: &[],
     list: "",
     late: &[],
@@ -100,6 +105,7 @@ pub const LIMIT: CommandLines = CommandLines {
             keys: &[],
         },
     ],
+    values: &[],
     items: &[],
     list: "",
     late: &[],
@@ -128,6 +134,7 @@ pub const MARGIN: CommandLines = CommandLines {
             keys: &[],
         },
     ],
+    values: &[],
     items: &[],
     list: "",
     late: &[],
@@ -152,6 +159,7 @@ pub const WHY: CommandLines = CommandLines {
             keys: &[],
         },
     ],
+    values: &[],
     items: &[
         LineRow {
             begins: "need horizon",
@@ -215,6 +223,7 @@ pub const COMPARE: CommandLines = CommandLines {
     name: "compare",
     head: "",
     answers: &[],
+    values: &[],
     items: &[
         LineRow {
             begins: "same",
@@ -264,4 +273,87 @@ pub const COMPARE: CommandLines = CommandLines {
     list: "differences",
     late: &[],
     nothing: "-",
+};
+
+/// `repeat`: numbers of a cluster, and what holds of each process and chain of a plan.
+pub const REPEAT: CommandLines = CommandLines {
+    name: "repeat",
+    head: "ttrepeat 1\n",
+    answers: &[],
+    values: &[
+        LineRow {
+            begins: "finer",
+            keys: &["finer"],
+        },
+        LineRow {
+            begins: "period",
+            keys: &["period"],
+        },
+        LineRow {
+            begins: "round",
+            keys: &["round"],
+        },
+        LineRow {
+            begins: "rounds",
+            keys: &["rounds"],
+        },
+        LineRow {
+            begins: "gap",
+            keys: &["gap"],
+        },
+        LineRow {
+            begins: "near",
+            keys: &["near_below", "near_above"],
+        },
+        LineRow {
+            begins: "processes",
+            keys: &["processes"],
+        },
+        LineRow {
+            begins: "links",
+            keys: &["links"],
+        },
+        LineRow {
+            begins: "messages",
+            keys: &["messages"],
+        },
+    ],
+    items: &[
+        LineRow {
+            begins: "process",
+            keys: &["process", "jitter", "response"],
+        },
+        LineRow {
+            begins: "chain",
+            keys: &["chain", "age", "bound"],
+        },
+    ],
+    list: "figures",
+    late: &[],
+    nothing: "-",
+};
+
+/// `age`: a line, and a plan behind it.
+pub const AGE: CommandLines = CommandLines {
+    name: "age",
+    head: "",
+    answers: &[
+        LineRow {
+            begins: "age",
+            keys: &["age", "_", "window"],
+        },
+        LineRow {
+            begins: "between",
+            keys: &["low", "high"],
+        },
+        LineRow {
+            begins: "none",
+            keys: &[],
+        },
+    ],
+    values: &[],
+    items: &[],
+    list: "",
+    late: &[],
+    nothing: "none",
 };

@@ -8,7 +8,9 @@ mod places;
 mod rows;
 mod words;
 
-pub use answers::{tell, untold};
-pub use commands::{COMPARE, CommandLines, EXPLAIN, JUDGE, LIMIT, MARGIN, VERIFY, WHY};
+pub use answers::{Ended, ObjectFault, end_in_memory, end_or, tell, untold, write_object};
+pub use commands::{
+    AGE, COMPARE, CommandLines, EXPLAIN, JUDGE, LIMIT, MARGIN, REPEAT, VERIFY, WHY,
+};
 pub use members::{Members, Reasons};
 pub use rows::LineRow;

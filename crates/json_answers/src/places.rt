@@ -2,7 +2,7 @@
 
 use crate::members::Members;
 use crate::rows::{LineRow, row_of};
-use crate::words::{first_word, push_numbers, push_words};
+use crate::words::{first_word, push_names, push_numbers, push_words};
 use std::alloc::{AllocError, Global};
 
 /// Of a text without a code: what stands behind its words.
@@ -30,6 +30,10 @@ const BARE: &[LineRow] = &[
     LineRow {
         begins: "margin name",
         keys: &["word"],
+    },
+    LineRow {
+        begins: "age name",
+        keys: &[],
     },
     LineRow {
         begins: "usage bundle",
@@ -89,6 +93,26 @@ const OF_PLAN: &[LineRow] = &[
     },
 ];
 
+/// Of a cluster of several rates by its code, where it is at no table, or at two places.
+const OF_RATES: &[LineRow] = &[
+    LineRow {
+        begins: "J7",
+        keys: &["_", "chain", "place"],
+    },
+    LineRow {
+        begins: "J8",
+        keys: &["slots", "round"],
+    },
+    LineRow {
+        begins: "J10",
+        keys: &["round", "cycle"],
+    },
+    LineRow {
+        begins: "M11",
+        keys: &["_", "before", "after"],
+    },
+];
+
 /// Of a line of a text.
 const LINE: &[&str] = &["line"];
 
@@ -133,6 +157,44 @@ fn push_table(alloc: Global, place: &mut Members, words: &str) -> Result<(), All
     }
 }
 
+/// Adds the place of a fault of a cluster of several rates: that of its text as of an instance, and that of the instance of a cycle by names.
+fn push_of_rates(
+    alloc: Global,
+    place: &mut Members,
+    code: &str,
+    words: &str,
+) -> Result<(), AllocError> {
+    if let Some((row, _)) = row_of(OF_RATES, code) {
+        return push_words(alloc, place, row.keys, words, NOTHING);
+    }
+    if code == "M13" {
+        return push_names(alloc, place, "processes", words);
+    }
+    let (table, name) = first_word(words);
+    if code.starts_with('M') && !name.is_empty() {
+        place.push(alloc, table, &name)
+    } else {
+        push_table(alloc, place, words)
+    }
+}
+
+/// Adds the place of a fault of a text, by its code.
+fn push_in_text(
+    alloc: Global,
+    place: &mut Members,
+    file: &str,
+    code: &str,
+    words: &str,
+) -> Result<(), AllocError> {
+    if file == "instance" {
+        push_table(alloc, place, words)
+    } else if file == "rates" {
+        push_of_rates(alloc, place, code, words)
+    } else {
+        push_indices(alloc, place, code, words)
+    }
+}
+
 /// Adds the code and the place of a line, where it is one of a fault: `plan V8 0`, `instance T3 process 1 node`, `memory`; and whether it is.
 pub fn push_place(alloc: Global, members: &mut Members, line: &str) -> Result<bool, AllocError> {
     let mut place = Members::new(alloc);
@@ -143,15 +205,11 @@ pub fn push_place(alloc: Global, members: &mut Members, line: &str) -> Result<bo
     }
     let (file, rest) = first_word(line);
     let (code, words) = first_word(rest);
-    if begins_with_digit(rest) || !["instance", "plan", "certificate"].contains(&file) {
+    if begins_with_digit(rest) || !["instance", "plan", "certificate", "rates"].contains(&file) {
         return Ok(false);
     }
     place.push(alloc, "file", &file)?;
-    if file == "instance" {
-        push_table(alloc, &mut place, words)?;
-    } else {
-        push_indices(alloc, &mut place, code, words)?;
-    }
+    push_in_text(alloc, &mut place, file, code, words)?;
     push_code(alloc, members, code, &place)?;
     Ok(true)
 }

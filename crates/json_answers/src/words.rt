@@ -16,6 +16,9 @@ fn is_number(word: &str) -> bool {
     true
 }
 
+/// What is always a name, also where that is the word for nothing.
+const NAMED: &str = "window";
+
 /// Adds a word: a number as one, and null where it is the word for nothing.
 fn push_word(
     alloc: Global,
@@ -26,7 +29,7 @@ fn push_word(
 ) -> Result<(), AllocError> {
     if is_number(word) {
         members.push_written(key, word)
-    } else if word == nothing {
+    } else if word == nothing && key != NAMED {
         members.push_written(key, "null")
     } else {
         members.push(alloc, key, &word)
@@ -74,4 +77,18 @@ pub fn push_numbers(
     }
     numbers.push(']')?;
     members.push_written(key, numbers.as_str())
+}
+
+/// Adds names with a space between them, as a list.
+pub fn push_names(
+    alloc: Global,
+    members: &mut Members,
+    key: &str,
+    words: &str,
+) -> Result<(), AllocError> {
+    let mut names = Vec::new(alloc);
+    for word in words.split(' ') {
+        names.push(word)?;
+    }
+    members.push(alloc, key, &names.as_slice())
 }

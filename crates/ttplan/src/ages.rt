@@ -2,9 +2,11 @@
 
 use crate::files::{FileFault, Files, Named};
 use crate::hints::{Said, hint_at_file};
+use crate::judging::as_json;
 use crate::searches::{Sheet, lines_for, options_of, patient_for};
 use age_command::{AgeEnd, Asking, Beside, age_run, age_status, report_age};
-use command_line::{Age, Asks};
+use command_line::{Age, AnswerForm, Asks};
+use json_commands::{AGE, age_json, tell_age};
 use rates_command::{RatesEnd, RatesFault};
 use search_watching::{Follower, Searches};
 use solve_command::FreeGate;
@@ -31,9 +33,14 @@ fn follow_age<'a>(
     };
     let (rates, out) = (&mut files.instance, &mut rt.stdout());
     let (cert, reduced) = (&mut Sheet(files.certificate), &mut Sheet(files.reduced));
-    Ok(age_run(
-        threads, asking, rates, age.chain, beside, cert, reduced, out,
-    ))
+    Ok(match age.question.form {
+        AnswerForm::Text => age_run(
+            threads, asking, rates, age.chain, beside, cert, reduced, out,
+        ),
+        AnswerForm::Json => age_json(
+            threads, asking, rates, age.chain, beside, cert, reduced, out,
+        ),
+    })
 }
 
 /// Tells the least age of a chain of the cluster of a file, and says how far it is where that is asked for.
@@ -49,6 +56,15 @@ fn run_age<'a>(
     let end = follow_age(rt, threads, age, &searches);
     searches.end();
     end
+}
+
+/// Ends `age` of a file that can't be opened. An object tells so too, where it answers by one.
+fn unopened(rt: &HostRuntime, form: AnswerForm) -> AgeEnd {
+    let end = AgeEnd::OfRates(RatesEnd::Refused(RatesFault::Unread));
+    match form {
+        AnswerForm::Text => end,
+        AnswerForm::Json => tell_age(rt.alloc(), end, &[], &mut rt.stdout()),
+    }
 }
 
 /// Says on standard error why that was refused, and which file it is where the cluster's can't be read, and gives the status.
@@ -68,13 +84,10 @@ fn told(rt: &HostRuntime, end: &AgeEnd, rates: &str) -> u8 {
 
 /// Tells it, says why that was refused, and gives the status.
 pub fn age(rt: &HostRuntime, threads: &(impl Threads + Wait + Sync), age: &Age) -> u8 {
-    let rates = age.question.instance;
+    let (rates, form) = (age.question.instance, age.question.form);
     match run_age(rt, threads, age) {
         Ok(end) => told(rt, &end, rates),
-        Err(FileFault::Unread(_)) => {
-            let end = AgeEnd::OfRates(RatesEnd::Refused(RatesFault::Unread));
-            told(rt, &end, rates)
-        }
-        Err(fault) => fault.tell(rt, &Said::files(rates, None, None), None),
+        Err(FileFault::Unread(_)) => told(rt, &unopened(rt, form), rates),
+        Err(fault) => fault.tell(rt, &Said::files(rates, None, None), as_json(form, &AGE)),
     }
 }

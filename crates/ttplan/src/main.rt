@@ -56,7 +56,7 @@ fn run(rt: &HostRuntime, threads: &(impl Threads + Wait + Sync), request: Reques
             task,
         } => judging::of_rounds(rt, instance, plan, task),
         Request::Unroll { rates } => rates::unroll(rt, rates),
-        Request::Repeat { rates, plan } => rates::repeat(rt, rates, plan),
+        Request::Repeat { rates, plan, form } => rates::repeat(rt, rates, plan, form),
         Request::Solve(search) => searches::solve(rt, threads, &search),
         Request::Why(why) => searches::why(rt, threads, &why),
         Request::Limit(limit) => searches::limit(rt, threads, &limit),

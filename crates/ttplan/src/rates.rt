@@ -1,7 +1,9 @@
 //! What is told of the cluster of several rates of a file? All files of a command are open before one is read, in the order of its words.
 
 use crate::hints::hint_at_file;
+use command_line::AnswerForm;
 use command_streams::{Fault, Source};
+use json_commands::{repeat_json, repeat_plan_json, tell_repeat};
 use rates_command::{
     RatesEnd, RatesFault, rates_status, repeat_plan_run, repeat_run, report_rates, unroll_run,
 };
@@ -38,29 +40,45 @@ pub fn unroll(rt: &HostRuntime, rates: &str) -> u8 {
     told(rt, &run_unroll(rt, rates), rates, "")
 }
 
+/// Ends `repeat` where it is refused before it reads. An object tells so too, where it answers by one.
+fn unrepeated(rt: &HostRuntime, form: AnswerForm, fault: RatesFault) -> RatesEnd {
+    let end = RatesEnd::Refused(fault);
+    match form {
+        AnswerForm::Text => end,
+        AnswerForm::Json => tell_repeat(rt.alloc(), end, &[], &mut rt.stdout()),
+    }
+}
+
 /// Writes how the cluster of a file repeats.
-fn run_repeat(rt: &HostRuntime, rates: &str) -> RatesEnd {
-    match File::open(rt, rates) {
-        Ok(mut rates) => repeat_run(rt.alloc(), &mut rates, &mut rt.stdout()),
-        Err(_) => RatesEnd::Refused(RatesFault::Unread),
+fn run_repeat(rt: &HostRuntime, rates: &str, form: AnswerForm) -> RatesEnd {
+    let Ok(mut rates) = File::open(rt, rates) else {
+        return unrepeated(rt, form, RatesFault::Unread);
+    };
+    match form {
+        AnswerForm::Text => repeat_run(rt.alloc(), &mut rates, &mut rt.stdout()),
+        AnswerForm::Json => repeat_json(rt.alloc(), &mut rates, &mut rt.stdout()),
     }
 }
 
 /// Writes it with what holds of the plan of a second file.
-fn run_repeat_plan(rt: &HostRuntime, rates: &str, plan: &str) -> RatesEnd {
+fn run_repeat_plan(rt: &HostRuntime, rates: &str, plan: &str, form: AnswerForm) -> RatesEnd {
     let Ok(mut rates) = File::open(rt, rates) else {
-        return RatesEnd::Refused(RatesFault::Unread);
+        return unrepeated(rt, form, RatesFault::Unread);
     };
     let Ok(mut plan) = File::open(rt, plan) else {
-        return RatesEnd::Refused(RatesFault::OfPlan(Fault::Unread(Source::Plan)));
+        return unrepeated(rt, form, RatesFault::OfPlan(Fault::Unread(Source::Plan)));
     };
-    repeat_plan_run(rt.alloc(), &mut rates, &mut plan, &mut rt.stdout())
+    let (alloc, mut out) = (rt.alloc(), rt.stdout());
+    match form {
+        AnswerForm::Text => repeat_plan_run(alloc, &mut rates, &mut plan, &mut out),
+        AnswerForm::Json => repeat_plan_json(alloc, &mut rates, &mut plan, &mut out),
+    }
 }
 
 /// Writes it, of a plan too where there is one, says why that was refused, and gives the status.
-pub fn repeat(rt: &HostRuntime, rates: &str, plan: Option<&str>) -> u8 {
+pub fn repeat(rt: &HostRuntime, rates: &str, plan: Option<&str>, form: AnswerForm) -> u8 {
     match plan {
-        None => told(rt, &run_repeat(rt, rates), rates, ""),
-        Some(plan) => told(rt, &run_repeat_plan(rt, rates, plan), rates, plan),
+        None => told(rt, &run_repeat(rt, rates, form), rates, ""),
+        Some(plan) => told(rt, &run_repeat_plan(rt, rates, plan, form), rates, plan),
     }
 }

@@ -1,14 +1,15 @@
 use Rattle.std.proofs.Common.{List, ℕ}
 use Rattle.question_commands.specs.Margins.{IsMarginAnswer}
+use Rattle.json_answers.specs.Telling.{IsEndOr, end_in_memory}
 use Rattle.json_commands.proofs.Told.{told_of_one, untold_telling}
 use Rattle.json_commands.proofs.longer.margin_json.Goals as goal
 
 pub returns-in-Ok-clause-answer : goal.returns-in-Ok-clause-answer
 returns-in-Ok-clause-answer g c =
-    told_of_one _ c.margin_run-end.new.out.items c.margin_run-end.result _ _ _ c.new-text.ensures.items c.tell.ensures
+    told_of_one end_in_memory IsEndOr _ c.margin_run-end.new.out.items c.margin_run-end.result _ _ _ c.new-text.ensures.items c.tell.ensures
     (λ (bytes : List ℕ). IsMarginAnswer bytes _ _ _ _ _ _ _) _ c.margin_run-end.ensures.answer
 
 pub returns-clause-answer : goal.returns-clause-answer
 returns-clause-answer g c =
-    told_of_one _ c.margin_run-end.new.out.items c.margin_run-end.result _ _ _ c.new-text.ensures.items (untold_telling _ _ _ c.untold.ensures)
+    told_of_one end_in_memory IsEndOr _ c.margin_run-end.new.out.items c.margin_run-end.result _ _ _ c.new-text.ensures.items (untold_telling _ _ _ c.untold.ensures)
     (λ (bytes : List ℕ). IsMarginAnswer bytes _ _ _ _ _ _ _) _ c.margin_run-end.ensures.answer

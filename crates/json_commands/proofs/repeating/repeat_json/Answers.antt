@@ -1,0 +1,9 @@
+use Rattle.rates_command.specs.Repeats.{IsRepeatAnswer}
+use Rattle.json_commands.specs.RatesTelling.{IsRatesEndOr, rates_in_memory}
+use Rattle.json_commands.proofs.Told.{told_of_one}
+use Rattle.json_commands.proofs.repeating.repeat_json.Goals as goal
+
+pub returns-clause-answer : goal.returns-clause-answer
+returns-clause-answer g c =
+    told_of_one rates_in_memory IsRatesEndOr _ c.repeat_run-end.new.out.items c.repeat_run-end.result _ _ _ c.new-text.ensures.items c.tell_repeat.ensures IsRepeatAnswer _
+    c.repeat_run-end.ensures.answer

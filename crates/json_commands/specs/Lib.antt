@@ -1,0 +1,2 @@
+pub mod AgeTelling
+pub mod RatesTelling
