@@ -99,7 +99,7 @@ pub fn repeat_plan_json<I: Read, P: Read, W: Write>(
 ) -> RatesEnd
     ensures answer { IfSome (I.remaining rates.old) (λ bytes. IfSome (P.remaining plan.old) (λ p. IsToldBy rates_in_memory IsRatesEndOr
         (IsPlanRepeatAnswer bytes p) (W.contents out.old) (W.contents out.new) result)) }
-    ensures most { TakesAtMost (RATES_LIMIT + 1) (I.remaining rates.old) (I.remaining rates.new) }
+    ensures rates { TakesAtMost (RATES_LIMIT + 1) (I.remaining rates.old) (I.remaining rates.new) }
     ensures plan { TakesAtMost (PLAN_LIMIT + 1) (P.remaining plan.old) (P.remaining plan.new) }
 {
     let mut text = Vec::new(alloc);

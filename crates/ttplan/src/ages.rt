@@ -1,7 +1,7 @@
 //! How is it told of the cluster of several rates of a file how old what a chain carries has to be, and where is that written?
 
 use crate::files::{FileFault, Files, Named};
-use crate::hints::{Said, hint_at_file};
+use crate::hints::{Said, hint_at_chain, hint_at_file};
 use crate::judging::as_json;
 use crate::searches::{Sheet, lines_for, options_of, patient_for};
 use age_command::{AgeEnd, Asking, Beside, age_run, age_status, report_age};
@@ -67,8 +67,8 @@ fn unopened(rt: &HostRuntime, form: AnswerForm) -> AgeEnd {
     }
 }
 
-/// Says on standard error why that was refused, and which file it is where the cluster's can't be read, and gives the status.
-fn told(rt: &HostRuntime, end: &AgeEnd, rates: &str) -> u8 {
+/// Says on standard error why that was refused, and what that means at a terminal, and gives the status.
+fn told(rt: &HostRuntime, end: &AgeEnd, rates: &str, chain: &str) -> u8 {
     let _ = report_age(end, &mut rt.stderr());
     match end {
         AgeEnd::OfRates(RatesEnd::Refused(RatesFault::Unread)) => {
@@ -77,6 +77,7 @@ fn told(rt: &HostRuntime, end: &AgeEnd, rates: &str) -> u8 {
         AgeEnd::OfRates(RatesEnd::Refused(RatesFault::TooLong)) => {
             hint_at_file(rt, "has too many bytes", rates)
         }
+        AgeEnd::NoSuchChain => hint_at_chain(rt, chain),
         _ => {}
     }
     age_status(end)
@@ -86,8 +87,8 @@ fn told(rt: &HostRuntime, end: &AgeEnd, rates: &str) -> u8 {
 pub fn age(rt: &HostRuntime, threads: &(impl Threads + Wait + Sync), age: &Age) -> u8 {
     let (rates, form) = (age.question.instance, age.question.form);
     match run_age(rt, threads, age) {
-        Ok(end) => told(rt, &end, rates),
-        Err(FileFault::Unread(_)) => told(rt, &unopened(rt, form), rates),
+        Ok(end) => told(rt, &end, rates, age.chain),
+        Err(FileFault::Unread(_)) => told(rt, &unopened(rt, form), rates, age.chain),
         Err(fault) => fault.tell(rt, &Said::files(rates, None, None), as_json(form, &AGE)),
     }
 }

@@ -189,6 +189,14 @@ pub fn hint_at_file(rt: &HostRuntime, what: &str, name: &str) {
     }
 }
 
+/// Says which name no chain has, where standard error is a terminal.
+pub fn hint_at_chain(rt: &HostRuntime, name: &str) {
+    let mut err = rt.stderr();
+    if err.is_terminal() {
+        let _ = writeln!(err, "no chain has this name: {}", Word(name));
+    }
+}
+
 /// The line beside that of a fault.
 fn write_hint(out: &mut impl Write, said: &Said, fault: &Fault) -> io::Result<()> {
     match fault {
