@@ -1,3 +1,4 @@
+pub mod AgeTelling
 pub mod Chains
 pub mod Texts
 pub mod Answers

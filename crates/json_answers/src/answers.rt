@@ -3,7 +3,7 @@
 ghost use Rattle.std.specs.Prelude.{◌≡◌, IfOk, MatchResult, string_bytes};
 ghost use Rattle.sentences.specs.Shown.{IsShown};
 ghost use Rattle.json_answers.specs.declared.answers.ObjectFault.TheVariants.{Memory};
-ghost use Rattle.json_answers.specs.Telling.{IsEndOr, IsTelling, IsUnwritten, IsWhole, end_in_memory};
+ghost use Rattle.json_answers.specs.Telling.{IsEndOr, IsTelling, IsUnwritten, IsWhole, end_in_memory, fault_of};
 
 use crate::commands::CommandLines;
 use crate::members::{Members, Reasons};

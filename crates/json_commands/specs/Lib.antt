@@ -1,2 +1,1 @@
-pub mod AgeTelling
 pub mod RatesTelling

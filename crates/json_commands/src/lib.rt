@@ -1,18 +1,16 @@
 //! The commands that answer by a text, or by one JSON object in its place.
 #![tactic(auto)]
 
-mod aging;
 mod explaining;
 mod judging;
 mod longer;
 mod repeating;
 mod searching;
 
-pub use aging::{age_json, tell_age};
 pub use explain_command::{explain_certificate, explain_instance, explain_plan};
 pub use explaining::{explain_certificate_json, explain_instance_json, explain_plan_json};
 pub use json_answers::{
-    AGE, COMPARE, CommandLines, EXPLAIN, JUDGE, LIMIT, MARGIN, Reasons, VERIFY, WHY, tell,
+    COMPARE, CommandLines, EXPLAIN, JUDGE, LIMIT, MARGIN, Reasons, VERIFY, WHY, tell,
 };
 pub use judging::{compare_json, judge_json, verify_json};
 pub use longer::margin_json;

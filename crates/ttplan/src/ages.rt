@@ -4,9 +4,10 @@ use crate::files::{FileFault, Files, Named};
 use crate::hints::{Said, hint_at_chain, hint_at_file};
 use crate::judging::as_json;
 use crate::searches::{Sheet, lines_for, options_of, patient_for};
-use age_command::{AgeEnd, Asking, Beside, age_run, age_status, report_age};
+use age_command::{
+    AGE, AgeEnd, Asking, Beside, age_json, age_run, age_status, report_age, tell_age,
+};
 use command_line::{Age, AnswerForm, Asks};
-use json_commands::{AGE, age_json, tell_age};
 use rates_command::{RatesEnd, RatesFault};
 use search_watching::{Follower, Searches};
 use solve_command::FreeGate;

@@ -1,6 +1,6 @@
 use Rattle.explain_command.specs.Explained.{IsCertificateExplained}
 use Rattle.json_answers.specs.Telling.{IsEndOr, end_in_memory}
-use Rattle.json_commands.proofs.Told.{told_of_two}
+use Rattle.json_answers.proofs.Told.{told_of_two}
 use Rattle.json_commands.proofs.explaining.explain_certificate_json.Goals as goal
 
 pub returns-clause-answer : goal.returns-clause-answer

@@ -1,7 +1,7 @@
 use Rattle.std.proofs.Common.{List, ℕ}
 use Rattle.plan_commands.specs.Comparisons.{IsCompareAnswer}
 use Rattle.json_answers.specs.Telling.{IsEndOr, end_in_memory}
-use Rattle.json_commands.proofs.Told.{told_of_four}
+use Rattle.json_answers.proofs.Told.{told_of_four}
 use Rattle.json_commands.proofs.judging.compare_json.Goals as goal
 
 pub returns-clause-answer : goal.returns-clause-answer

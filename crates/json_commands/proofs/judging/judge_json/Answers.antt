@@ -1,6 +1,6 @@
 use Rattle.plan_commands.specs.Judged.{IsJudgeAnswer}
 use Rattle.json_answers.specs.Telling.{IsEndOr, end_in_memory}
-use Rattle.json_commands.proofs.Told.{told_of_three}
+use Rattle.json_answers.proofs.Told.{told_of_three}
 use Rattle.json_commands.proofs.judging.judge_json.Goals as goal
 
 pub returns-clause-answer : goal.returns-clause-answer

@@ -1,6 +1,6 @@
 use Rattle.plan_commands.specs.Verdicts.{IsVerdict}
 use Rattle.json_answers.specs.Telling.{IsEndOr, end_in_memory}
-use Rattle.json_commands.proofs.Told.{told_of_two}
+use Rattle.json_answers.proofs.Told.{told_of_two}
 use Rattle.json_commands.proofs.judging.verify_json.Goals as goal
 
 pub returns-clause-verdict : goal.returns-clause-verdict

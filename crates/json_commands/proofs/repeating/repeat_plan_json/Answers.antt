@@ -1,6 +1,6 @@
 use Rattle.rates_command.specs.Repeats.{IsPlanRepeatAnswer}
 use Rattle.json_commands.specs.RatesTelling.{IsRatesEndOr, rates_in_memory}
-use Rattle.json_commands.proofs.Told.{told_of_two}
+use Rattle.json_answers.proofs.Told.{told_of_two}
 use Rattle.json_commands.proofs.repeating.repeat_plan_json.Goals as goal
 
 pub returns-clause-answer : goal.returns-clause-answer

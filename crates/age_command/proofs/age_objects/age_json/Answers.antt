@@ -1,8 +1,8 @@
 use Rattle.std.proofs.Common.{List, ℕ}
 use Rattle.age_command.specs.Answers.{IsAgeAnswer}
-use Rattle.json_commands.specs.AgeTelling.{IsAgeEndOr, age_in_memory}
-use Rattle.json_commands.proofs.Told.{told_of_one}
-use Rattle.json_commands.proofs.aging.age_json.Goals as goal
+use Rattle.age_command.specs.AgeTelling.{IsAgeEndOr, age_in_memory}
+use Rattle.json_answers.proofs.Told.{told_of_one}
+use Rattle.age_command.proofs.age_objects.age_json.Goals as goal
 
 pub returns-clause-answer : goal.returns-clause-answer
 returns-clause-answer g c =

@@ -5,11 +5,14 @@ ghost use Rattle.command_streams.specs.Streams.{TakesAtMost};
 ghost use Rattle.rates_command.specs.declared.limits.TheConstants.{RATES_LIMIT};
 ghost use Rattle.age_command.specs.Answers.{IsAgeAnswer};
 ghost use Rattle.json_answers.specs.Telling.{IsTelling, IsToldBy, IsUnwritten, IsWhole};
-ghost use Rattle.json_commands.specs.AgeTelling.{IsAgeEndOr, age_in_memory};
+ghost use Rattle.age_command.specs.AgeTelling.{IsAgeEndOr, age_in_memory};
 
-use age_command::{AgeEnd, age_run, age_status, report_age};
+use crate::ages::age_run;
+use crate::ending::{AgeEnd, age_status};
+use crate::reporting::report_age;
 use json_answers::{AGE, Ended, ObjectFault, Reasons, end_in_memory, end_or, write_object};
-use question_commands::{Asking, Beside, Gate};
+use plan_questions::{Asking, Gate};
+use question_commands::Beside;
 use std::alloc::Global;
 use std::io::{Read, Write};
 use std::marker::Sync;
