@@ -8,15 +8,16 @@ use crate::given::Given;
 use crate::joining::join_request;
 use crate::misuse::Misuse;
 use crate::options::{
-    ANY_PLAN, CERTIFICATE, EXPLAINED_CERT, EXPLAINED_PLAN, FORMAT, INSTANCE, NEW_INSTANCE,
-    NEW_PLAN, OLD_INSTANCE, OLD_PLAN, RATES, UNROLLED_PLAN,
+    ANY_PLAN, CERTIFICATE, EXPLAINED_CERT, EXPLAINED_PLAN, EXPLAINED_RATES, FORMAT, INSTANCE,
+    NEW_INSTANCE, NEW_PLAN, OLD_INSTANCE, OLD_PLAN, RATES, UNROLLED_PLAN,
 };
 use crate::searching::{age_request, limit_request, margin_request, solve_request, why_request};
 use crate::table::{Asks, COMMANDS, row_of};
 use crate::tasks::{
-    draw_request, period_request, replay_request, schedule_request, tables_request, verify_request,
+    draw_request, period_request, replay_request, schedule_request, tables_request, unused,
+    verify_request,
 };
-use crate::words::{Explained, Request};
+use crate::words::{AnswerForm, Explained, Request};
 use clap::error::ErrorKind;
 use clap::{ArgMatches, Error};
 use std::alloc::Global;
@@ -32,12 +33,42 @@ fn explained_of<'a>(given: Given<'_, 'a>) -> Explained<'a> {
     }
 }
 
-/// An explanation of an instance, of a plan or of a certificate.
+/// That nothing stands beside a cluster of several rates, and that it is told as text.
+fn by_itself<'a>(given: Given<'_, 'a>, form: AnswerForm) -> Result<(), Misuse<'a>> {
+    let why = "a cluster of several rates is explained by itself";
+    unused(given, EXPLAINED_PLAN, why)?;
+    unused(given, EXPLAINED_CERT, why)?;
+    match form {
+        AnswerForm::Text => Ok(()),
+        AnswerForm::Json => unused(
+            given,
+            FORMAT,
+            "a cluster of several rates is explained in `--format text` alone",
+        ),
+    }
+}
+
+/// An explanation of a cluster of several rates.
+fn rates_request<'a>(
+    given: Given<'_, 'a>,
+    rates: &'a str,
+    form: AnswerForm,
+) -> Result<Request<'a>, Misuse<'a>>
+    ensures { IfOk result IsSound }
+{
+    by_itself(given, form)?;
+    Ok(Request::ExplainRates { rates })
+}
+
+/// An explanation of an instance, of a plan or of a certificate, or of a cluster of several rates.
 fn explain_request<'a>(given: Given<'_, 'a>) -> Result<Request<'a>, Misuse<'a>>
     ensures { IfOk result IsSound }
 {
     let instance = given.text(INSTANCE)?;
     let form = given.form(FORMAT)?;
+    if given.flag(EXPLAINED_RATES) {
+        return rates_request(given, instance, form);
+    }
     let explained = explained_of(given);
     Ok(Request::Explain {
         instance,

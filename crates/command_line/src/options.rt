@@ -298,6 +298,14 @@ pub const EXPLAINED_CERT: &Row = &Row {
     help: "Explains this certificate, in place of a plan",
 };
 
+/// Whether what is explained is a cluster of several rates.
+pub const EXPLAINED_RATES: &Row = &Row {
+    name: "rates",
+    place: Place::Flag,
+    takes: Takes::Nothing,
+    help: "Explains a cluster whose processes have periods of their own: INSTANCE is what `ttplan unroll` takes",
+};
+
 /// The file of the best plan so far.
 pub const KEEP: &Row = &Row {
     name: "keep",

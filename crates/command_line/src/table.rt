@@ -2,7 +2,7 @@
 
 use crate::options::{
     ANY_PLAN, BUDGET, CERT, CERT_OF_ALL, CERT_OF_LAST, CERT_OF_LESS, CERT_OF_MORE, CERT_OF_NONE,
-    CERTIFICATE, CERTIFICATES, CHAIN, EXPLAINED_CERT, EXPLAINED_PLAN, FORMAT, GAP, INSTANCE, KEEP,
+    CERTIFICATE, CERTIFICATES, CHAIN, EXPLAINED_CERT, EXPLAINED_PLAN, EXPLAINED_RATES, FORMAT, GAP, INSTANCE, KEEP,
     LATE, LOSSES, NEW_INSTANCE, NEW_PLAN, NODE, OLD_INSTANCE, OLD_PLAN, PERIOD_TICKS, PERMILLE,
     PLAN, PROCESSES, PROGRESS, RATES, REDUCED, ROUNDS, RUNNERS, SCHEDULE_FORMAT, SEARCH_BUDGET,
     SEARCHED, SEARCHES_PROGRESS, SECONDS, START, TABLE, UNROLLED_PLAN, UNTIL, USED, WIDTH,
@@ -157,9 +157,15 @@ const JUDGE: &CommandRow = &CommandRow {
 const EXPLAIN: &CommandRow = &CommandRow {
     name: "explain",
     about: "Tells in sentences why an instance, a plan or a certificate is refused, and why a valid plan ends when it does",
-    rows: &[INSTANCE, EXPLAINED_PLAN, EXPLAINED_CERT, FORMAT],
+    rows: &[
+        INSTANCE,
+        EXPLAINED_PLAN,
+        EXPLAINED_CERT,
+        EXPLAINED_RATES,
+        FORMAT,
+    ],
     after: Some(
-        "The first line is the one that `ttplan verify` or `ttplan check` gives, of an instance alone how many nodes, processes, links and messages it has. Sentences follow: of what is refused which two things a rule compares, both numbers, and by how much they fail it; of a valid plan what held its last process back, and what that, down to a release; of a certificate of one leaf each step.\n\nIt ends with status 0 wherever it explained something, a refusal too.",
+        "The first line is the one that `ttplan verify` or `ttplan check` gives, of an instance alone how many nodes, processes, links and messages it has. Sentences follow: of what is refused which two things a rule compares, both numbers, and by how much they fail it; of a valid plan what held its last process back, and what that, down to a release; of a certificate of one leaf each step.\n\nWith --rates the first line is the one by which `ttplan unroll` refuses the cluster, or how many nodes, processes, links, messages and chains it has, and the sentences are of that. It is told as text alone, and without PLAN.\n\nIt ends with status 0 wherever it explained something, a refusal too.",
     ),
 };
 

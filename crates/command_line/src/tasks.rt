@@ -164,7 +164,7 @@ fn format_of<'a>(given: Given<'_, 'a>) -> Result<Format, Misuse<'a>> {
 }
 
 /// That an option isn't used, of which this is said where it is.
-fn unused<'a>(
+pub fn unused<'a>(
     given: Given<'_, 'a>,
     row: &'static Row,
     why: &'static str,

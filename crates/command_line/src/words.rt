@@ -203,6 +203,10 @@ pub enum Request<'a> {
         explained: Explained<'a>,
         form: AnswerForm,
     },
+    /// Tell the same of the cluster of several rates of a file.
+    ExplainRates {
+        rates: &'a str,
+    },
     /// Verify an instance and a plan in one stream: no words were given.
     VerifyBundle,
     /// Say which version this is.

@@ -1,5 +1,5 @@
 -- Which place is told, with the name that stands there. Own profile.
-use Rattle.std.specs.Prelude.{◌≡◌, List, ℕ, []}
+use Rattle.std.specs.Prelude.{◌≡◌, List, ℕ, [], Option, None, Some, codes}
 use Rattle.toml.specs.Data.{Members}
 use Rattle.ttp_model.specs.declared.error.Place.{Place as ModelPlace}
 use Rattle.ttp_model.specs.declared.error.Place.TheVariants.{AtCluster, AtLink, AtMessage, AtNode, AtProcess}
@@ -35,12 +35,32 @@ text_name ms (Process p) = tables.name_at (Process p) ms
 text_name ms (Link l) = []
 text_name ms (Message m) = tables.name_at (Message m) ms
 
+-- what a table of a text is called
+abbrev pub table_word : Place → List ℕ
+table_word Top = codes "top of the text"
+table_word Cluster = codes "cluster"
+table_word (Node n) = codes "node"
+table_word (Process p) = codes "process"
+table_word (Link l) = codes "link"
+table_word (Message m) = codes "message"
+
+-- and its index in its array
+abbrev pub index_of : Place → Option ℕ
+index_of Top = None
+index_of Cluster = None
+index_of (Node n) = Some n
+index_of (Process p) = Some p
+index_of (Link l) = Some l
+index_of (Message m) = Some m
+
 -- a place of an instance
 pub record IsSpot (i : Instance) (at : ModelPlace) (s : Spot) : Type 0 where
-  pub place_is : s.place ≡ table_of at
+  pub table_is : s.table.now ≡ table_word (table_of at)
+  pub index_is : s.index ≡ index_of (table_of at)
   pub name_is : s.name.now ≡ name_at i at
 
 -- and of a text
 pub record IsTextSpot (ms : Members) (place : Place) (s : Spot) : Type 0 where
-  pub place_is : s.place ≡ place
+  pub table_is : s.table.now ≡ table_word place
+  pub index_is : s.index ≡ index_of place
   pub name_is : s.name.now ≡ text_name ms place

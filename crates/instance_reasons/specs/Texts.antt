@@ -30,19 +30,19 @@ pub record IsOddKey (ms : Members) (place : Place) (r : OddKey) : Type 0 where
 -- one that has to be there
 pub record IsMissingKey (ms : Members) (place : Place) (key : Key) (r : MissingReason) : Type 0 where
   pub spot_is : IsTextSpot ms place r.spot
-  pub key_is : r.key ≡ key
+  pub key_is : r.key.now ≡ text_of key
 
 -- what stands at a key, and what has to
 pub record IsWrongKind (ms : Members) (place : Place) (key : Key) (r : KindReason) : Type 0 where
   pub spot_is : IsTextSpot ms place r.spot
-  pub key_is : r.key ≡ key
+  pub key_is : r.key.now ≡ text_of key
   pub found_is : r.found ≡ option_map (found_of r.wanted) (value_at place key ms)
   pub wanted_is : r.wanted ≡ wanted place key
 
 -- a number that doesn't fit
 pub record IsUnfitNumber (ms : Members) (place : Place) (key : Key) (r : UnfitNumber) : Type 0 where
   pub spot_is : IsTextSpot ms place r.spot
-  pub key_is : r.key ≡ key
+  pub key_is : r.key.now ≡ text_of key
   pub number_is : r.number ≡ and_then (value_at place key ms) unfit_of
 
 -- the names that may be named at a place
@@ -56,9 +56,9 @@ name_of_none place key ms = and_then (value_at place key ms) (unknown_name (is_k
 -- and which of them is nearest
 pub record IsOddName (ms : Members) (place : Place) (key : Key) (r : OddName) : Type 0 where
   pub spot_is : IsTextSpot ms place r.spot
-  pub key_is : r.key ≡ key
+  pub key_is : r.key.now ≡ text_of key
   pub name_is : option_map (λ s. s.now) r.name ≡ name_of_none place key ms
-  pub list_is : r.list ≡ list_named_at place
+  pub list_is : r.list.now ≡ text_of (list_named_at place)
   pub near_is : AreNear (and_then (name_of_none place key ms) (λ word. nearest word (names_at place ms))) r.near
 
 -- the fault is one of a table

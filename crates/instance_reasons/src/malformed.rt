@@ -62,8 +62,8 @@ pub fn malformed_name<'a>(
     })
 }
 
-/// What is wrong with a name.
-fn name_fault(alloc: Global, name: &[u8]) -> Result<NameFault, AllocError>
+/// What is wrong with a name. Takes memory for one that may stand.
+pub fn name_fault(alloc: Global, name: &[u8]) -> Result<NameFault, AllocError>
     requires { ¬ IsName name.now }
     ensures { IfOk result (IsNameFault name.now) }
 {

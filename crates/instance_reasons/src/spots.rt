@@ -3,7 +3,7 @@
 ghost use Rattle.std.specs.Prelude.{◌≡◌};
 ghost use Rattle.toml.specs.View.{table_view};
 ghost use Rattle.instance_text.specs.Views.{instance_of};
-ghost use Rattle.instance_reasons.specs.Spots.{IsSpot, IsTextSpot, table_of, text_name};
+ghost use Rattle.instance_reasons.specs.Spots.{IsSpot, IsTextSpot, index_of, table_of, table_word, text_name};
 
 use crate::{parts, tables};
 use instance_text::{Parts, Place};
@@ -16,16 +16,47 @@ use toml::Table;
 /// A place with the name that stands there: an empty one where there is none.
 #[derive(Clone, Copy)]
 pub struct Spot<'a> {
-    pub place: Place,
+    /// Which table of a text states it.
+    pub table: &'static str,
+    /// Which of its array, where there may be several.
+    pub index: Option<usize>,
     pub name: &'a str,
+}
+
+/// What a table of a text is called.
+fn table_word(place: Place) -> &'static str
+    ensures { result.now ≡ table_word place }
+{
+    match place {
+        Place::Top => "top of the text",
+        Place::Cluster => "cluster",
+        Place::Node(_) => "node",
+        Place::Process(_) => "process",
+        Place::Link(_) => "link",
+        Place::Message(_) => "message",
+    }
+}
+
+/// Its index in its array.
+fn index_of(place: Place) -> Option<usize>
+    ensures { result ≡ index_of place }
+{
+    match place {
+        Place::Top | Place::Cluster => None,
+        Place::Node(index) | Place::Process(index) | Place::Link(index) | Place::Message(index) => {
+            Some(index)
+        }
+    }
 }
 
 /// A place of an instance.
 pub fn spot_at(parts: &Parts, place: ttp_model::Place) -> Spot<'_>
     ensures { IsSpot (instance_of parts.now) place result }
 {
+    let table = table_of(place);
     Spot {
-        place: table_of(place),
+        table: table_word(table),
+        index: index_of(table),
         name: parts::name_at(parts, place),
     }
 }
@@ -48,7 +79,8 @@ pub fn text_spot(table: &Table, place: Place) -> Spot<'_>
     ensures { IsTextSpot (table_view table.now) place result }
 {
     Spot {
-        place,
+        table: table_word(place),
+        index: index_of(place),
         name: text_name(table, place),
     }
 }
@@ -85,15 +117,10 @@ impl<'a> Spot<'a> {
 
 impl<'a> fmt::Display for Spot<'a> {
     fn fmt<W: fmt::Write>(&self, f: &mut fmt::Formatter<W>) -> fmt::Result {
-        let (kind, index) = match self.place {
-            Place::Top => return f.write_str("the top of the text"),
-            Place::Cluster => return f.write_str("the cluster"),
-            Place::Node(n) => ("node", n),
-            Place::Process(p) => ("process", p),
-            Place::Link(l) => ("link", l),
-            Place::Message(m) => ("message", m),
-        };
-        tell(f, "{} {}", &[Text(kind), Number(index as u64)])?;
+        match self.index {
+            None => tell(f, "the {}", &[Text(self.table)])?,
+            Some(index) => tell(f, "{} {}", &[Text(self.table), Number(index as u64)])?,
+        }
         if self.name.is_empty() {
             return Ok(());
         }

@@ -59,7 +59,7 @@ fn text_of_value<'a>(value: &'a Value) -> &'a str
 }
 
 /// The name in a table, or an empty one where it has none.
-fn name_of<'a>(table: &'a Table) -> &'a str
+pub fn name_of<'a>(table: &'a Table) -> &'a str
     ensures { result.now ≡ name_of (table_view table.now) }
 {
     match member(table, Key::Name) {

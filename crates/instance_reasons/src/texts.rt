@@ -98,7 +98,7 @@ impl<'a> fmt::Display for OddKey<'a> {
 #[derive(Clone, Copy)]
 pub struct MissingKey<'a> {
     pub spot: Spot<'a>,
-    pub key: Key,
+    pub key: &'static str,
 }
 
 impl<'a> Described for MissingKey<'a> {}
@@ -108,7 +108,7 @@ impl<'a> Serialize for MissingKey<'a> {
         write_members(
             &[
                 ("spot", self.spot.member()),
-                ("key", Member::Text(self.key.text())),
+                ("key", Member::Text(self.key)),
             ],
             out,
         )
@@ -118,7 +118,7 @@ impl<'a> Serialize for MissingKey<'a> {
 impl<'a> fmt::Display for MissingKey<'a> {
     fn fmt<W: fmt::Write>(&self, f: &mut fmt::Formatter<W>) -> fmt::Result {
         self.spot.tell_within(f)?;
-        tell(f, "the key {} is missing.\n", &[Text(self.key.text())])
+        tell(f, "the key {} is missing.\n", &[Text(self.key)])
     }
 }
 
@@ -126,7 +126,7 @@ impl<'a> fmt::Display for MissingKey<'a> {
 #[derive(Clone, Copy)]
 pub struct WrongKind<'a> {
     pub spot: Spot<'a>,
-    pub key: Key,
+    pub key: &'static str,
     /// What stands there, where the table has such a fault.
     pub found: Option<Found>,
     pub wanted: Shape,
@@ -139,7 +139,7 @@ fn wrong_kind<'a>(table: &'a Table, place: Place, key: Key) -> WrongKind<'a>
     let wanted = wanted(place, key);
     WrongKind {
         spot: text_spot(table, place),
-        key,
+        key: key.text(),
         found: found_at(table, place, key, wanted),
         wanted,
     }
@@ -159,7 +159,7 @@ impl<'a> Serialize for WrongKind<'a> {
         write_members(
             &[
                 ("spot", self.spot.member()),
-                ("key", Member::Text(self.key.text())),
+                ("key", Member::Text(self.key)),
                 ("found", found_if_any(self.found)),
                 ("wanted", self.wanted.member()),
             ],
@@ -173,7 +173,7 @@ impl<'a> fmt::Display for WrongKind<'a> {
         let (spot, Some(found)) = (self.spot, self.found) else {
             return Ok(());
         };
-        let (key, found, wanted) = (self.key.text(), found.words(), self.wanted.words());
+        let (key, found, wanted) = (self.key, found.words(), self.wanted.words());
         spot.tell_within(f)?;
         tell(
             f,
@@ -187,7 +187,7 @@ impl<'a> fmt::Display for WrongKind<'a> {
 #[derive(Clone, Copy)]
 pub struct UnfitNumber<'a> {
     pub spot: Spot<'a>,
-    pub key: Key,
+    pub key: &'static str,
     /// It is there where the table has such a fault.
     pub number: Option<i64>,
 }
@@ -198,7 +198,7 @@ fn unfit_number<'a>(table: &'a Table, place: Place, key: Key) -> UnfitNumber<'a>
 {
     UnfitNumber {
         spot: text_spot(table, place),
-        key,
+        key: key.text(),
         number: number_at(table, place, key),
     }
 }
@@ -216,7 +216,7 @@ impl<'a> Serialize for UnfitNumber<'a> {
     fn serialize<S: Serializer>(&self, out: &mut S) -> Result<(), S::Error> {
         let members = [
             ("spot", self.spot.member()),
-            ("key", Member::Text(self.key.text())),
+            ("key", Member::Text(self.key)),
         ];
         write_members_and(&members, "number", &self.number, out)
     }
@@ -240,11 +240,11 @@ impl<'a> fmt::Display for UnfitNumber<'a> {
 #[derive(Clone, Copy)]
 pub struct OddName<'a> {
     pub spot: Spot<'a>,
-    pub key: Key,
+    pub key: &'static str,
     /// It is there where the table has such a fault.
     pub name: Option<&'a str>,
     /// The list in which it was looked for.
-    pub list: Key,
+    pub list: &'static str,
     /// The name in that list that is nearest to it, where one is near.
     pub near: Option<NearName<'a>>,
 }
@@ -264,15 +264,15 @@ fn odd_name<'a>(
     let near = near_of(alloc, name, names.as_slice())?;
     Ok(OddName {
         spot: text_spot(table, place),
-        key,
+        key: key.text(),
         name,
-        list,
+        list: list.text(),
         near,
     })
 }
 
-/// Which of these names is nearest to another one.
-fn near_of<'a>(
+/// Which of these names is nearest to another one, where there is that.
+pub fn near_of<'a>(
     alloc: Global,
     name: Option<&str>,
     names: &[&'a str],
@@ -310,9 +310,9 @@ impl<'a> Serialize for OddName<'a> {
         write_members(
             &[
                 ("spot", self.spot.member()),
-                ("key", Member::Text(self.key.text())),
+                ("key", Member::Text(self.key)),
                 ("name", told_if_any(self.name)),
-                ("list", Member::Text(self.list.text())),
+                ("list", Member::Text(self.list)),
                 ("near", near_if_any(self.near)),
             ],
             out,
@@ -325,7 +325,7 @@ impl<'a> fmt::Display for OddName<'a> {
         let (spot, Some(name)) = (self.spot, self.name) else {
             return Ok(());
         };
-        let (key, list) = (self.key.text(), self.list.text());
+        let (key, list) = (self.key, self.list);
         spot.tell_within(f)?;
         tell(
             f,
@@ -363,7 +363,7 @@ pub fn text_reason<'a>(
         TextError::UnknownKey { place } => TextReason::OddKey(odd_key(alloc, table, *place)?),
         TextError::MissingKey { place, key } => TextReason::MissingKey(MissingKey {
             spot: text_spot(table, *place),
-            key: *key,
+            key: key.text(),
         }),
         TextError::WrongKind { place, key } => {
             TextReason::WrongKind(wrong_kind(table, *place, *key))

@@ -1,53 +1,61 @@
--- Which numbers and names a refusal of a cluster of several rates is told with.
-use Rattle.std.specs.Prelude.{◌≡◌, ℕ, ◌-◌, length, slice_index}
-use Rattle.rates_model.specs.declared.error.RatesPart.{RatesPart}
-use Rattle.rates_model.specs.declared.error.RatesPart.TheVariants.{Nodes, Processes, Links, Messages, Chains}
-use Rattle.rates_model.specs.declared.error.RatesPlace.{RatesPlace}
-use Rattle.rates_model.specs.declared.error.RatesPlace.TheVariants.{AtCluster, AtNode, AtProcess, AtLink, AtMessage, AtChain}
+-- Why bytes state no cluster of several rates. Own profile.
+use Rattle.std.specs.Prelude.{◌≡◌, ℕ, List, Err, Ok}
+use Rattle.toml.specs.Data.{Members}
+use Rattle.toml.specs.View.{table_view}
+use Rattle.instance_text.specs.Faults.{IsDocument, IsNoDocument}
+use Rattle.instance_reasons.specs.declared.texts.TextReason.{TextReason}
 use Rattle.rates_model.specs.declared.error.RatesError.{RatesError}
-use Rattle.rates_model.specs.declared.error.RatesError.TheVariants as rates
-use Rattle.rates_model.specs.Rates.{Rates, chain_at, link_at, message_at, process_at}
+use Rattle.rates_model.specs.Parts.{rates_of}
+use Rattle.rates_model.specs.Rates.{Rates}
+use Rattle.rates_model.specs.Refusals.{IsRatesRefusal}
+use Rattle.rates_text.specs.declared.error.RatesTextError.{RatesTextError}
+use Rattle.rates_text.specs.declared.error.RatesTextError.TheVariants as fault
+use Rattle.rates_text.specs.Faults.{StatesRates}
+use Rattle.rates_text.specs.Stated.{stated}
+use Rattle.rates_reasons.specs.declared.reason.RatesAgain.{RatesAgain}
+use Rattle.rates_reasons.specs.declared.reason.RatesAgain.TheVariants as again
 use Rattle.rates_reasons.specs.declared.reason.RatesReason.{RatesReason}
 use Rattle.rates_reasons.specs.declared.reason.RatesReason.TheVariants as reason
-use Rattle.rates_reasons.specs.Spots.{IsSpot}
+use Rattle.rates_reasons.specs.declared.rules.RatesRuleReason.{RatesRuleReason}
+use Rattle.rates_reasons.specs.Rules.{IsRatesRuleReason}
+use Rattle.rates_reasons.specs.Texts.{IsOfTable, IsRatesTextReason}
 
--- how many entries a list has
-abbrev pub length_of : Rates → RatesPart → ℕ
-length_of rho Nodes = length rho.nodes
-length_of rho Processes = length rho.processes
-length_of rho Links = length rho.links
-length_of rho Messages = length rho.messages
-length_of rho Chains = length rho.chains
+-- what was read again has this fault
+abbrev pub HasFault : RatesAgain → RatesTextError → Type 0
+HasFault (again.NotToml said) e = e ≡ fault.NotToml
+HasFault (again.Table table) e = IsOfTable e
+HasFault (again.Parts parts) (fault.Refused e) = IsRatesRefusal (rates_of parts) e
+HasFault (again.Parts parts) _ = ⊥
 
--- the number of a place that has a range of its own: of the cluster what storing takes
-abbrev pub number_at : Rates → RatesPlace → ℕ
-number_at rho AtCluster = rho.cluster.store
-number_at rho (AtNode n) = 0
-number_at rho (AtProcess p) = (process_at rho p).period
-number_at rho (AtLink l) = (link_at rho l).delay
-number_at rho (AtMessage m) = (message_at rho m).delay
-number_at rho (AtChain c) = (chain_at rho c).age
+-- and this is the reason in it
+abbrev pub IsReasonIn : RatesAgain → RatesTextError → RatesReason → Type 0
+IsReasonIn (again.NotToml said) e (reason.NotToml r) = e ≡ fault.NotToml
+IsReasonIn (again.Table table) e (reason.Text r) = IsRatesTextReason (table_view table) e r
+IsReasonIn (again.Parts parts) (fault.Refused e) (reason.Rule r) = IsRatesRuleReason (rates_of parts) e r
+IsReasonIn _ _ _ = ⊥
 
--- the process at a place of a chain
-abbrev pub process_through : Rates → ℕ → ℕ → ℕ
-process_through rho c place = slice_index (chain_at rho c).through place
+-- of the table that the bytes are, whose first fault this is
+pub record IsOfText (bytes : List ℕ) (e : RatesTextError) (r : TextReason) : Type 0 where
+  pub table : Members
+  pub document : IsDocument bytes table
+  pub first : stated table ≡ Err e
+  pub told : IsRatesTextReason table e r
 
--- a refusal's numbers and names, rule by rule
-abbrev pub IsRatesReason : Rates → RatesError → RatesReason → Type 0
-IsRatesReason rho (rates.Length list) (reason.Count told count) = (told ≡ list) × (count ≡ length_of rho list)
-IsRatesReason rho (rates.NoReceiver m) (reason.NoReceiver name) = name.now ≡ (message_at rho m).name
-IsRatesReason rho (rates.Through c) (reason.Through name count) = (name.now ≡ (chain_at rho c).name) × (count ≡ length (chain_at rho c).through)
-IsRatesReason rho (rates.NameForm at) (reason.Malformed spot) = IsSpot rho at spot
-IsRatesReason rho (rates.NameRepeated at) (reason.Repeated spot) = IsSpot rho at spot
-IsRatesReason rho (rates.NoSuchIndex at) (reason.NoSuchIndex spot) = IsSpot rho at spot
-IsRatesReason rho (rates.OutOfRange at) (reason.Outside place spot number) = (place ≡ at) × IsSpot rho at spot × (number ≡ number_at rho at)
-IsRatesReason rho (rates.NoRoom p) (reason.NoRoom name release wcet deadline period) =
-    (name.now ≡ (process_at rho p).name) × (release ≡ (process_at rho p).release) × (wcet ≡ (process_at rho p).wcet)
-    × (deadline ≡ (process_at rho p).deadline) × (period ≡ (process_at rho p).period)
-IsRatesReason rho (rates.NothingRead c k) (reason.Unread chain before name) =
-    (chain.now ≡ (chain_at rho c).name) × (before.now ≡ (process_at rho (process_through rho c (k - 1))).name)
-    × (name.now ≡ (process_at rho (process_through rho c k)).name)
-IsRatesReason rho (rates.ShortRound slots round) (reason.ShortRound told asked) = (told ≡ slots) × (asked ≡ round)
-IsRatesReason rho rates.LongCycle (reason.LongCycle finer) = finer ≡ rho.cluster.finer
-IsRatesReason rho (rates.LongRound round cycle) (reason.LongRound told whole finer) = (told ≡ round) × (whole ≡ cycle) × (finer ≡ rho.cluster.finer)
-IsRatesReason rho _ _ = ⊥
+-- of the cluster that the bytes state, which breaks a rule
+pub record IsOfRule (bytes : List ℕ) (e : RatesError) (r : RatesRuleReason) : Type 0 where
+  pub rates : Rates
+  pub states : StatesRates bytes (Ok rates)
+  pub refusal : IsRatesRefusal rates e
+  pub told : IsRatesRuleReason rates e r
+
+-- the reason of just that fault of bytes; of those that are no TOML nothing is known of what their reader says
+abbrev pub IsRatesReason : List ℕ → RatesTextError → RatesReason → Type 0
+IsRatesReason bytes fault.NotToml (reason.NotToml said) = IsNoDocument bytes
+IsRatesReason bytes (fault.Refused e) (reason.Rule r) = IsOfRule bytes e r
+IsRatesReason bytes e (reason.Text r) = IsOfText bytes e r
+IsRatesReason bytes _ _ = ⊥
+
+-- bytes that were read again: what is a reason in what came of them is one of the bytes
+pub record IsReadAgain (bytes : List ℕ) (e : RatesTextError) (again : RatesAgain) : Type 0 where
+  pub has_fault : HasFault again e
+  pub tells : (r : RatesReason) → IsReasonIn again e r → IsRatesReason bytes e r

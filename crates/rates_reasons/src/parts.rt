@@ -1,15 +1,15 @@
-//! What stands in the tables of a cluster of several rates at an index: nothing, or 0, where none does.
+//! What stands in the tables of a cluster of several rates at an index: nothing, or 0, where none does?
 
-ghost use Rattle.std.specs.Prelude.{◌≡◌, length};
+ghost use Rattle.std.specs.Prelude.{◌≡◌, ◌<◌, length};
 ghost use Rattle.rates_model.specs.Parts.{rates_of};
 ghost use Rattle.rates_model.specs.Rates.{chain_at, link_at, message_at, node_at, process_at};
-ghost use Rattle.rates_reasons.specs.Times.{AreTimes};
+ghost use Rattle.rates_reasons.specs.Rules.{AreTimes, process_through};
 
 use rates_model::{RatesLink, RatesParts};
 
 /// The times of a process, in ticks.
 #[derive(Clone, Copy)]
-pub struct Times {
+pub struct RatesTimes {
     pub wcet: u32,
     pub period: u32,
     pub release: u32,
@@ -27,6 +27,17 @@ pub fn node_name(parts: &RatesParts, n: u32) -> &str
     }
 }
 
+/// What its frame holds.
+pub fn capacity_of(parts: &RatesParts, n: u32) -> u32
+    ensures { result ≡ (node_at (rates_of parts.now) n).capacity }
+{
+    if (n as usize) < parts.nodes.len() {
+        parts.nodes[n as usize].capacity
+    } else {
+        0
+    }
+}
+
 /// The name of process `p`.
 pub fn process_name(parts: &RatesParts, p: u32) -> &str
     ensures { result.now ≡ (process_at (rates_of parts.now) p).name }
@@ -38,20 +49,20 @@ pub fn process_name(parts: &RatesParts, p: u32) -> &str
     }
 }
 
-/// The times of process `p`.
-pub fn times_of(parts: &RatesParts, p: u32) -> Times
-    ensures { AreTimes (rates_of parts.now) p result }
+/// Its times.
+pub fn times_of(parts: &RatesParts, p: u32) -> RatesTimes
+    ensures { AreTimes (process_at (rates_of parts.now) p) result }
 {
     if (p as usize) < parts.processes.len() {
         let process = &parts.processes[p as usize];
-        Times {
+        RatesTimes {
             wcet: process.wcet,
             period: process.period,
             release: process.release,
             deadline: process.deadline,
         }
     } else {
-        Times {
+        RatesTimes {
             wcet: 0,
             period: 0,
             release: 0,
@@ -86,7 +97,7 @@ pub fn message_name(parts: &RatesParts, m: u32) -> &str
     }
 }
 
-/// The delay of message `m`.
+/// Its delay.
 pub fn message_delay(parts: &RatesParts, m: u32) -> u32
     ensures { result ≡ (message_at (rates_of parts.now) m).delay }
 {
@@ -108,7 +119,7 @@ pub fn chain_name(parts: &RatesParts, c: u32) -> &str
     }
 }
 
-/// The age of chain `c`.
+/// Its age.
 pub fn chain_age(parts: &RatesParts, c: u32) -> u32
     ensures { result ≡ (chain_at (rates_of parts.now) c).age }
 {
@@ -119,13 +130,21 @@ pub fn chain_age(parts: &RatesParts, c: u32) -> u32
     }
 }
 
-/// How many processes chain `c` leads through.
-pub fn chain_length(parts: &RatesParts, c: u32) -> usize
-    ensures { result ≡ length (chain_at (rates_of parts.now) c).through }
+/// The processes that it leads through.
+pub fn chain_processes(parts: &RatesParts, c: u32) -> &[u32]
+    ensures { result.now ≡ (chain_at (rates_of parts.now) c).through }
 {
     if (c as usize) < parts.chains.len() {
-        parts.chains[c as usize].through.len()
+        parts.chains[c as usize].through.as_slice()
     } else {
-        0
+        &[]
     }
+}
+
+/// The process at a place of it.
+pub fn process_through(parts: &RatesParts, c: u32, place: u32) -> u32
+    requires { place < length (chain_at (rates_of parts.now) c).through }
+    ensures { result ≡ process_through (rates_of parts.now) c place }
+{
+    chain_processes(parts, c)[place as usize]
 }

@@ -1,108 +1,207 @@
-//! The sentences of a refusal.
+//! In which sentences is it told which rule is broken?
 
-use crate::reason::RatesReason;
-use crate::spots::told;
-use rates_model::{RatesPart, RatesPlace};
-use sentences::{Counted, Ticks};
+use crate::parts::RatesTimes;
+use crate::rules::RatesRuleReason;
+use instance_reasons::Spot;
+use rates_model::{
+    LEAST_THROUGH, MOST_CHAINS, MOST_DELAY, MOST_THROUGH, RatesPart,
+};
+use rates_text::RatesKey;
+use sentences::Word::{Count, Number, Text, Ticks, Told};
+use sentences::{Counted, tell};
 use std::fmt;
+use std::fmt::Display;
+use ttp_model::{MOST_LINKS, MOST_MESSAGES, MOST_NODES, MOST_PROCESSES, MOST_TICKS};
 
-/// What a list has, and how many it may have.
-fn entries(list: RatesPart) -> (&'static str, &'static str, &'static str) {
+/// What a list has: one, several, and how many at least and at most.
+fn entries_of(list: RatesPart) -> (&'static str, &'static str, usize, usize) {
     match list {
-        RatesPart::Nodes => ("node", "nodes", "1 to 32"),
-        RatesPart::Processes => ("process", "processes", "1 to 256"),
-        RatesPart::Links => ("link", "links", "1024 at most"),
-        RatesPart::Messages => ("message", "messages", "512 at most"),
-        RatesPart::Chains => ("chain", "chains", "64 at most"),
+        RatesPart::Nodes => ("node", "nodes", 1, MOST_NODES),
+        RatesPart::Processes => ("process", "processes", 1, MOST_PROCESSES),
+        RatesPart::Links => ("link", "links", 0, MOST_LINKS),
+        RatesPart::Messages => ("message", "messages", 0, MOST_MESSAGES),
+        RatesPart::Chains => ("chain", "chains", 0, MOST_CHAINS),
     }
 }
 
-/// Which number of a place has a range, and what that is.
-fn range_at(place: RatesPlace) -> (&'static str, &'static str) {
-    match place {
-        RatesPlace::AtCluster => ("what storing takes", "1 to 1000000 ticks, as for the round that is asked for"),
-        RatesPlace::AtNode(_) => ("no number", "any"),
-        RatesPlace::AtProcess(_) => ("the period", "1 to 1000000 ticks"),
-        RatesPlace::AtLink(_) | RatesPlace::AtMessage(_) => ("the delay", "0 or 1"),
-        RatesPlace::AtChain(_) => ("the age", "1 to 1000000 ticks"),
+/// Which numbers may stand at a key.
+fn range_at(key: RatesKey) -> (u64, u64) {
+    match key {
+        RatesKey::Delay => (0, u64::from(MOST_DELAY)),
+        _ => (1, u64::from(MOST_TICKS)),
     }
 }
 
-/// In which ticks numbers are told, where these aren't those of the text.
-#[derive(Clone, Copy)]
-struct InTicks(u32);
-
-impl fmt::Display for InTicks {
-    fn fmt<W: fmt::Write>(&self, f: &mut fmt::Formatter<W>) -> fmt::Result {
-        if self.0 == 1 {
-            writeln!(f, ".")
-        } else {
-            writeln!(f, ", in ticks of which {} make one of the text.", self.0)
-        }
+/// Ends a sentence whose numbers are in ticks of which so many make one of the text.
+fn end_in_ticks<W: fmt::Write>(f: &mut fmt::Formatter<W>, finer: u32) -> fmt::Result {
+    if finer == 1 {
+        return f.write_str(".\n");
     }
+    tell(
+        f,
+        ", in ticks of which {} make one of the text.\n",
+        &[Number(u64::from(finer))],
+    )
 }
 
-/// What is said of a process that has no room in its period.
-fn write_no_room<W: fmt::Write>(
+/// Tells how many entries a list has, and may have.
+fn tell_count<W: fmt::Write>(
     f: &mut fmt::Formatter<W>,
-    process: &str,
-    release: u32,
-    wcet: u32,
-    deadline: u32,
-    period: u32,
+    list: RatesPart,
+    number: u64,
 ) -> fmt::Result {
-    let takes = Ticks(u64::from(wcet));
-    write!(f, "Process {} is released at {release} and takes {takes}", told(process))?;
-    writeln!(f, ", its deadline is {deadline}, and its period {period}.")?;
-    writeln!(f, "It has to end by its deadline where it starts at its release, and that is within its period.")
+    let (one, many, least, most) = entries_of(list);
+    tell(
+        f,
+        "The text has {}, and may have {} to {}.\n",
+        &[
+            Count(Counted { number, one, many }),
+            Number(least as u64),
+            Number(most as u64),
+        ],
+    )
 }
 
-impl<'a> fmt::Display for RatesReason<'a> {
+/// Tells through how many processes a chain leads, and may lead.
+fn tell_through<W: fmt::Write>(f: &mut fmt::Formatter<W>, spot: Spot, number: u64) -> fmt::Result {
+    spot.tell_within(f)?;
+    tell(
+        f,
+        "it leads through {}, and may lead through {} to {}.\n",
+        &[
+            Count(Counted {
+                number,
+                one: "process",
+                many: "processes",
+            }),
+            Number(LEAST_THROUGH as u64),
+            Number(MOST_THROUGH as u64),
+        ],
+    )
+}
+
+/// Tells which number is outside its range.
+fn tell_outside<W: fmt::Write>(
+    f: &mut fmt::Formatter<W>,
+    spot: Spot,
+    key: RatesKey,
+    number: u32,
+) -> fmt::Result {
+    let (least, most) = range_at(key);
+    spot.tell_within(f)?;
+    tell(
+        f,
+        "{} is {}, and from {} to {} may stand",
+        &[
+            Text(key.text()),
+            Number(u64::from(number)),
+            Number(least),
+            Number(most),
+        ],
+    )
+}
+
+/// Tells which process has no room in its period.
+fn tell_no_room<W: fmt::Write>(
+    f: &mut fmt::Formatter<W>,
+    spot: Spot,
+    times: RatesTimes,
+) -> fmt::Result {
+    spot.tell_within(f)?;
+    let (release, wcet) = (u64::from(times.release), u64::from(times.wcet));
+    let (deadline, period) = (u64::from(times.deadline), u64::from(times.period));
+    tell(
+        f,
+        "released at {} it takes {} and ends at {}; its deadline is {}, and its period {}",
+        &[
+            Number(release),
+            Ticks(wcet),
+            Number(release + wcet),
+            Number(deadline),
+            Number(period),
+        ],
+    )
+}
+
+/// Tells what reads nothing of what stands before it in a chain.
+fn tell_unread<W: fmt::Write>(
+    f: &mut fmt::Formatter<W>,
+    spot: Spot,
+    before: &str,
+    process: &str,
+) -> fmt::Result {
+    spot.tell_within(f)?;
+    tell(
+        f,
+        "process {} reads nothing of {}, by no link and no message.\n",
+        &[Told(process), Told(before)],
+    )
+}
+
+impl<'a> fmt::Display for RatesRuleReason<'a> {
     fn fmt<W: fmt::Write>(&self, f: &mut fmt::Formatter<W>) -> fmt::Result {
-        match *self {
-            RatesReason::Count { list, count } => {
-                let (one, many, most) = entries(list);
-                let number = count as u64;
-                writeln!(f, "The text has {}: it may have {most}.", Counted { number, one, many })
+        match self {
+            RatesRuleReason::Count { list, entries } => tell_count(f, *list, *entries),
+            RatesRuleReason::NoReceiver { spot } => {
+                spot.tell_within(f)?;
+                f.write_str("there is no receiver.\n")
             }
-            RatesReason::NoReceiver { message } => {
-                writeln!(f, "Message {} has no receiver.", told(message))
+            RatesRuleReason::Through { spot, entries } => tell_through(f, *spot, *entries),
+            RatesRuleReason::Malformed(reason) => reason.fmt(f),
+            RatesRuleReason::Repeated { spot } => {
+                spot.tell_within(f)?;
+                f.write_str("one before it in its list has the same name.\n")
             }
-            RatesReason::Through { chain, count } => {
-                let number = count as u64;
-                let counted = Counted { number, one: "process", many: "processes" };
-                writeln!(f, "Chain {} leads through {counted}: it may lead through 2 to 32.", told(chain))
+            RatesRuleReason::NoSuchIndex { spot } => {
+                spot.tell_within(f)?;
+                f.write_str("what it names isn't there.\n")
             }
-            RatesReason::Malformed { spot } => {
-                writeln!(f, "In {spot}: a name has 1 to 32 letters, digits and _, and begins with no digit.")
+            RatesRuleReason::Outside {
+                spot,
+                key,
+                number,
+                finer,
+            } => {
+                tell_outside(f, *spot, *key, *number)?;
+                end_in_ticks(f, *finer)
             }
-            RatesReason::Repeated { spot } => {
-                writeln!(f, "In {spot}: one that stands before in the list has the same name.")
+            RatesRuleReason::NoRoom { spot, times, finer } => {
+                tell_no_room(f, *spot, *times)?;
+                end_in_ticks(f, *finer)
             }
-            RatesReason::NoSuchIndex { spot } => {
-                writeln!(f, "In {spot}: what it names isn't there.")
+            RatesRuleReason::Unread {
+                spot,
+                before,
+                process,
+            } => tell_unread(f, *spot, before, process),
+            RatesRuleReason::ShortRound { slots, round } => {
+                write!(f, "The slots take {slots}")?;
+                tell(
+                    f,
+                    " ticks, and the round that is asked for has {}.\n",
+                    &[Number(u64::from(*round))],
+                )
             }
-            RatesReason::Outside { place, spot, number } => {
-                let (what, range) = range_at(place);
-                writeln!(f, "In {spot}: {what} is {number}, and may be {range}.")
+            RatesRuleReason::LongCycle { finer } => {
+                tell(
+                    f,
+                    "The least common multiple of all periods is above {}",
+                    &[Number(u64::from(MOST_TICKS))],
+                )?;
+                end_in_ticks(f, *finer)
             }
-            RatesReason::NoRoom { process, release, wcet, deadline, period } => {
-                write_no_room(f, process, release, wcet, deadline, period)
-            }
-            RatesReason::Unread { chain, before, process } => {
-                let (chain, before, process) = (told(chain), told(before), told(process));
-                writeln!(f, "In chain {chain}: process {process} reads nothing of {before}, by no link and no message.")
-            }
-            RatesReason::ShortRound { slots, round } => {
-                writeln!(f, "The slots take {slots} ticks, and a round is to have {round}.")
-            }
-            RatesReason::LongCycle { finer } => {
-                write!(f, "The least common multiple of all periods is above 1000000")?;
-                write!(f, "{}", InTicks(finer))
-            }
-            RatesReason::LongRound { round, cycle, finer } => {
-                write!(f, "A round takes {round}, and the cycle {cycle}")?;
-                write!(f, "{}", InTicks(finer))
+            RatesRuleReason::LongRound {
+                round,
+                cycle,
+                finer,
+            } => {
+                write!(f, "A round takes {round}")?;
+                tell(
+                    f,
+                    " ticks, and the cycle, the least common multiple of all periods, has {}",
+                    &[Number(u64::from(*cycle))],
+                )?;
+                end_in_ticks(f, *finer)
             }
         }
     }

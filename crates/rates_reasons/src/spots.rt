@@ -1,59 +1,104 @@
-//! What stands at a place, by its name?
+//! Where in a cluster of several rates or in its text does something stand?
 
+ghost use Rattle.std.specs.Prelude.{◌≡◌};
+ghost use Rattle.toml.specs.View.{table_view};
 ghost use Rattle.rates_model.specs.Parts.{rates_of};
-ghost use Rattle.rates_reasons.specs.Spots.{IsSpot};
+ghost use Rattle.rates_reasons.specs.Spots.{IsRatesSpot, IsRatesTextSpot, index_of, name_at, table_of, table_word, text_name};
 
-use crate::parts::{chain_name, link_of, message_name, node_name, process_name};
+use crate::parts::{chain_name, message_name, node_name, process_name};
+use crate::tables;
+use instance_reasons::Spot;
 use rates_model::{RatesParts, RatesPlace};
-use sentences::Told;
-use std::fmt;
+use rates_text::RatesTable;
+use toml::Table;
 
-/// What stands there, with its name; of a link the names of its two ends.
-#[derive(Clone, Copy)]
-pub enum RatesSpot<'a> {
-    Cluster,
-    Node(&'a str),
-    Process(&'a str),
-    Link(&'a str, &'a str),
-    Message(&'a str),
-    Chain(&'a str),
-}
-
-/// What stands at a place.
-pub fn spot_at(parts: &RatesParts, place: RatesPlace) -> RatesSpot<'_>
-    ensures { IsSpot (rates_of parts.now) place result }
+/// What a table of a text is called.
+fn table_word(place: RatesTable) -> &'static str
+    ensures { result.now ≡ table_word place }
 {
     match place {
-        RatesPlace::AtCluster => RatesSpot::Cluster,
-        RatesPlace::AtNode(n) => RatesSpot::Node(node_name(parts, n)),
-        RatesPlace::AtProcess(p) => RatesSpot::Process(process_name(parts, p)),
-        RatesPlace::AtLink(l) => {
-            let link = link_of(parts, l);
-            RatesSpot::Link(process_name(parts, link.before), process_name(parts, link.after))
-        }
-        RatesPlace::AtMessage(m) => RatesSpot::Message(message_name(parts, m)),
-        RatesPlace::AtChain(c) => RatesSpot::Chain(chain_name(parts, c)),
+        RatesTable::Top => "top of the text",
+        RatesTable::Cluster => "cluster",
+        RatesTable::Node(_) => "node",
+        RatesTable::Process(_) => "process",
+        RatesTable::Link(_) => "link",
+        RatesTable::Message(_) => "message",
+        RatesTable::Chain(_) => "chain",
     }
 }
 
-/// A name as it is told.
-pub fn told(name: &str) -> Told<'_> {
-    Told {
-        bytes: name.as_bytes(),
+/// Its index in its array.
+fn index_of(place: RatesTable) -> Option<usize>
+    ensures { result ≡ index_of place }
+{
+    match place {
+        RatesTable::Top | RatesTable::Cluster => None,
+        RatesTable::Node(index)
+        | RatesTable::Process(index)
+        | RatesTable::Link(index)
+        | RatesTable::Message(index)
+        | RatesTable::Chain(index) => Some(index),
     }
 }
 
-impl<'a> fmt::Display for RatesSpot<'a> {
-    fn fmt<W: fmt::Write>(&self, f: &mut fmt::Formatter<W>) -> fmt::Result {
-        match *self {
-            RatesSpot::Cluster => write!(f, "the cluster"),
-            RatesSpot::Node(name) => write!(f, "node {}", told(name)),
-            RatesSpot::Process(name) => write!(f, "process {}", told(name)),
-            RatesSpot::Link(before, after) => {
-                write!(f, "the link from {} to {}", told(before), told(after))
-            }
-            RatesSpot::Message(name) => write!(f, "message {}", told(name)),
-            RatesSpot::Chain(name) => write!(f, "chain {}", told(name)),
+/// Which table of a text states what stands at a place.
+fn table_of(place: RatesPlace) -> RatesTable
+    ensures { result ≡ table_of place }
+{
+    match place {
+        RatesPlace::AtCluster => RatesTable::Cluster,
+        RatesPlace::AtNode(n) => RatesTable::Node(n as usize),
+        RatesPlace::AtProcess(p) => RatesTable::Process(p as usize),
+        RatesPlace::AtLink(l) => RatesTable::Link(l as usize),
+        RatesPlace::AtMessage(m) => RatesTable::Message(m as usize),
+        RatesPlace::AtChain(c) => RatesTable::Chain(c as usize),
+    }
+}
+
+/// The name at a place, or an empty one where it has none.
+pub fn name_at(parts: &RatesParts, place: RatesPlace) -> &str
+    ensures { result.now ≡ name_at (rates_of parts.now) place }
+{
+    match place {
+        RatesPlace::AtNode(n) => node_name(parts, n),
+        RatesPlace::AtProcess(p) => process_name(parts, p),
+        RatesPlace::AtMessage(m) => message_name(parts, m),
+        RatesPlace::AtChain(c) => chain_name(parts, c),
+        RatesPlace::AtCluster | RatesPlace::AtLink(_) => "",
+    }
+}
+
+/// A place of a cluster.
+pub fn spot_at(parts: &RatesParts, place: RatesPlace) -> Spot<'_>
+    ensures { IsRatesSpot (rates_of parts.now) place result }
+{
+    let table = table_of(place);
+    Spot {
+        table: table_word(table),
+        index: index_of(table),
+        name: name_at(parts, place),
+    }
+}
+
+/// The name at a place of a text.
+fn text_name(table: &Table, place: RatesTable) -> &str
+    ensures { result.now ≡ text_name (table_view table.now) place }
+{
+    match place {
+        RatesTable::Top | RatesTable::Cluster | RatesTable::Link(_) => "",
+        RatesTable::Node(_) | RatesTable::Process(_) | RatesTable::Message(_) | RatesTable::Chain(_) => {
+            tables::name_at(table, place)
         }
+    }
+}
+
+/// A place of a text.
+pub fn text_spot(table: &Table, place: RatesTable) -> Spot<'_>
+    ensures { IsRatesTextSpot (table_view table.now) place result }
+{
+    Spot {
+        table: table_word(place),
+        index: index_of(place),
+        name: text_name(table, place),
     }
 }

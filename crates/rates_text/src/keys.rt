@@ -10,7 +10,7 @@ use crate::error::{RatesKey, RatesTable, RatesTextError};
 use toml::Table;
 
 /// The keys of such a table, in the order of checks.
-fn keys_at(place: RatesTable) -> &'static [RatesKey]
+pub fn keys_at(place: RatesTable) -> &'static [RatesKey]
     ensures { result.now ≡ keys_at place }
 {
     match place {
@@ -57,7 +57,7 @@ fn keys_at(place: RatesTable) -> &'static [RatesKey]
 }
 
 /// Whether one of the keys is spelled so.
-fn has_key(keys: &[RatesKey], text: &str) -> bool
+pub fn has_key(keys: &[RatesKey], text: &str) -> bool
     ensures { result ≡ has_key keys.now text.now }
 {
     keys.iter().any(|key| key.text() == text)

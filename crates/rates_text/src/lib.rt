@@ -16,4 +16,5 @@ mod top;
 mod values;
 
 pub use error::{RatesKey, RatesTable, RatesTextError};
-pub use text::read;
+pub use keys::{has_key, keys_at};
+pub use text::{read, stated_parts};

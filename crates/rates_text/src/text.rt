@@ -32,7 +32,7 @@ fn document(alloc: Global, bytes: &[u8]) -> Result<Table, RatesTextError>
 }
 
 /// The parts that a top table states, or its first fault: all that `read` judges before it asks for rules.
-fn stated_parts(alloc: Global, table: &Table) -> Result<RatesParts, RatesTextError>
+pub fn stated_parts(alloc: Global, table: &Table) -> Result<RatesParts, RatesTextError>
     ensures ok { IfOk result (λ ps. stated (table_view table.now) ≡ Ok (rates_of ps)) }
     ensures err { IfErr result (IsFaultOfPart (stated (table_view table.now))) }
 {

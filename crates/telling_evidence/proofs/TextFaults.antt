@@ -65,7 +65,7 @@ module _ (ms : Members) (told : TextReason) where
   pub no_node : ms ≡ member (codes "process") (array (item (table
       (member (codes "name") (string (codes "p")) (member (codes "node") (string (codes "p")) no_members))) no_items)) no_members
       → IsTextReason ms (UnknownName (Process 0) key.Node) told → (r : OddName) → told ≡ reason.OddName r
-      → (r.list ≡ key.Node) × (option_map (λ s. s.now) r.name ≡ Some (codes "p"))
+      → (r.list.now ≡ codes "node") × (option_map (λ s. s.now) r.name ≡ Some (codes "p"))
   no_node is tells r same =
       let t = subst (λ (x : TextReason). IsTextReason ms (UnknownName (Process 0) key.Node) x) same tells in
       (t.list_is, t.name_is ∙ ap (name_of_none (Process 0) key.Node) is)

@@ -4,7 +4,6 @@ ghost use Rattle.std.specs.Prelude.{◌≡◌, ℕ, IfOk, List, Some, codes, opt
 ghost use Rattle.std.specs.Borrow.{Bor};
 ghost use Rattle.toml.specs.Data.{Data, array, integer, item, member, no_items, no_members, string, table};
 ghost use Rattle.toml.specs.View.{table_view};
-ghost use Rattle.instance_text.specs.declared.error.Key.TheVariants as key;
 ghost use Rattle.instance_reasons.specs.declared.near.NearName.TheVariants.{Meant};
 ghost use Rattle.instance_reasons.specs.declared.texts.OddKey.{OddKey};
 ghost use Rattle.instance_reasons.specs.declared.texts.OddName.{OddName};
@@ -70,7 +69,7 @@ pub fn node_of_a_process_is_told(alloc: Global, top: &Table) -> Result<TextReaso
     ensures { table_view top.now ≡ member (codes "process") (array (item (table
         (member (codes "name") (string (codes "p")) (member (codes "node") (string (codes "p")) no_members))) no_items)) no_members
         → IfOk result (λ told. (r : OddName) → told ≡ reason.OddName r
-        → (r.list ≡ key.Node) × (option_map (λ s. s.now) r.name ≡ Some (codes "p"))) }
+        → (r.list.now ≡ codes "node") × (option_map (λ s. s.now) r.name ≡ Some (codes "p"))) }
 {
     let (place, key) = (Place::Process(0), Key::Node);
     text_reason(alloc, top, &TextError::UnknownName { place, key })

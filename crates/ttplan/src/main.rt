@@ -32,6 +32,7 @@ pub use plan_commands::{
 pub use rates_command::{
     RatesEnd, RatesFault, rates_status, repeat_plan_run, repeat_run, report_rates, unroll_run,
 };
+pub use rates_explained::explain_rates;
 pub use solve_command::{Options, solve_run};
 use std::io;
 use std::marker::Sync;
@@ -78,6 +79,7 @@ fn run(rt: &HostRuntime, threads: &(impl Threads + Wait + Sync), request: Reques
             explained,
             form,
         } => judging::explain(rt, threads, instance, explained, form),
+        Request::ExplainRates { rates } => rates::explain(rt, rates),
         Request::Compare {
             old_instance,
             old_plan,

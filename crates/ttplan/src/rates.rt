@@ -7,6 +7,7 @@ use json_commands::{repeat_json, repeat_plan_json, tell_repeat};
 use rates_command::{
     RatesEnd, RatesFault, rates_status, repeat_plan_run, repeat_run, report_rates, unroll_run,
 };
+use rates_explained::explain_rates;
 use std::fs::File;
 
 /// Says on standard error why a cluster was refused, or a plan of it, and which file it is where that can't be read, and gives the
@@ -47,6 +48,19 @@ fn unrepeated(rt: &HostRuntime, form: AnswerForm, fault: RatesFault) -> RatesEnd
         AnswerForm::Text => end,
         AnswerForm::Json => tell_repeat(rt.alloc(), end, &[], &mut rt.stdout()),
     }
+}
+
+/// Tells the cluster of a file in sentences.
+fn run_explain(rt: &HostRuntime, rates: &str) -> RatesEnd {
+    match File::open(rt, rates) {
+        Ok(mut rates) => explain_rates(rt.alloc(), &mut rates, &mut rt.stdout()),
+        Err(_) => RatesEnd::Refused(RatesFault::Unread),
+    }
+}
+
+/// Tells it, says why that was refused, and gives the status.
+pub fn explain(rt: &HostRuntime, rates: &str) -> u8 {
+    told(rt, &run_explain(rt, rates), rates, "")
 }
 
 /// Writes how the cluster of a file repeats.

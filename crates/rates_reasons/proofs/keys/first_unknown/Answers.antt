@@ -1,0 +1,6 @@
+use Rattle.rates_reasons.proofs.Keys.{first_of_members}
+use Rattle.rates_reasons.proofs.keys.first_unknown.Goals as goal
+
+pub loop-text-init : goal.loop-text-init
+loop-text-init c =
+    rw (c.into_iter-text-iterator.ensures.into_iter_gives, c.keys-text-items.ensures.rest) (first_of_members c.args.keys.now c.args.table.now.entries)
