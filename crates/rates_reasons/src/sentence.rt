@@ -32,6 +32,14 @@ fn range_at(key: RatesKey) -> (u64, u64) {
     }
 }
 
+/// How many ticks in which the number at a key is told make one of the text, where so many of all times do.
+fn finer_at(key: RatesKey, finer: u32) -> u32 {
+    match key {
+        RatesKey::Store | RatesKey::Period | RatesKey::Age => finer,
+        _ => 1,
+    }
+}
+
 /// Ends a sentence whose numbers are in ticks of which so many make one of the text.
 fn end_in_ticks<W: fmt::Write>(f: &mut fmt::Formatter<W>, finer: u32) -> fmt::Result {
     if finer == 1 {
@@ -163,7 +171,7 @@ impl<'a> fmt::Display for RatesRuleReason<'a> {
                 finer,
             } => {
                 tell_outside(f, *spot, *key, *number)?;
-                end_in_ticks(f, *finer)
+                end_in_ticks(f, finer_at(*key, *finer))
             }
             RatesRuleReason::NoRoom { spot, times, finer } => {
                 tell_no_room(f, *spot, *times)?;
