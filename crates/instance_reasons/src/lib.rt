@@ -30,11 +30,11 @@ pub use counts::{NoReceiver, WrongCount, entry_words};
 pub use described::{LargeMessage, Sizes, sizes_of};
 pub use grammar::{NotToml, not_toml};
 pub use joins::{BothOfOne, ReceiverThere, ReceiverTwice, WrongLink};
+pub use known::{Known, names_under, unknown_name};
 pub use laws::{
     large_messages_leave_no_plan, near_names_are_there, odd_keys_are_unknown,
     odd_names_are_unknown, what_is_wanted_is_read,
 };
-pub use known::{Known, names_under, unknown_name};
 pub use malformed::{MalformedName, NameFault, name_fault};
 pub use near::{NearName, near_name, nearest};
 pub use ranges::{Outside, OutsideRange};
@@ -42,9 +42,9 @@ pub use reason::{InstanceReason, ReadAgain, reason_of, reread};
 pub use rules::{NoSuchIndex, RuleReason, rule_reason};
 pub use shared::SharedName;
 pub use spots::Spot;
+pub use tables::{name_of, table_at};
 pub use texts::{
     MissingKey, OddKey, OddName, TextReason, UnfitNumber, WrongKind, near_of, text_reason,
 };
 pub use times::{NoTime, ShortLead, ShortTrail};
-pub use tables::{name_of, table_at};
 pub use values::{Found, Kind, Shape, found_of, unfit_of};

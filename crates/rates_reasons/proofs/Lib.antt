@@ -1,2 +1,2 @@
-pub mod Keys
+pub mod FirstKeys
 pub mod Again

@@ -23,14 +23,26 @@ use ttp_model::MOST_TICKS;
 #[derive(Drop)]
 pub enum RatesRuleReason<'a> {
     /// How many entries a list has, of which it may not have so many.
-    Count { list: RatesPart, entries: u64 },
-    NoReceiver { spot: Spot<'a> },
+    Count {
+        list: RatesPart,
+        entries: u64,
+    },
+    NoReceiver {
+        spot: Spot<'a>,
+    },
     /// How many processes a chain leads through.
-    Through { spot: Spot<'a>, entries: u64 },
+    Through {
+        spot: Spot<'a>,
+        entries: u64,
+    },
     Malformed(MalformedName<'a>),
-    Repeated { spot: Spot<'a> },
+    Repeated {
+        spot: Spot<'a>,
+    },
     /// When it names an index that isn't there, as no text can.
-    NoSuchIndex { spot: Spot<'a> },
+    NoSuchIndex {
+        spot: Spot<'a>,
+    },
     Outside {
         spot: Spot<'a>,
         key: RatesKey,
@@ -47,9 +59,18 @@ pub enum RatesRuleReason<'a> {
         before: &'a str,
         process: &'a str,
     },
-    ShortRound { slots: u128, round: u32 },
-    LongCycle { finer: u32 },
-    LongRound { round: u128, cycle: u32, finer: u32 },
+    ShortRound {
+        slots: u128,
+        round: u32,
+    },
+    LongCycle {
+        finer: u32,
+    },
+    LongRound {
+        round: u128,
+        cycle: u32,
+        finer: u32,
+    },
 }
 
 /// How many entries a list has.

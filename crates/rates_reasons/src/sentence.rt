@@ -3,9 +3,7 @@
 use crate::parts::RatesTimes;
 use crate::rules::RatesRuleReason;
 use instance_reasons::Spot;
-use rates_model::{
-    LEAST_THROUGH, MOST_CHAINS, MOST_DELAY, MOST_THROUGH, RatesPart,
-};
+use rates_model::{LEAST_THROUGH, MOST_CHAINS, MOST_DELAY, MOST_THROUGH, RatesPart};
 use rates_text::RatesKey;
 use sentences::Word::{Count, Number, Text, Ticks, Told};
 use sentences::{Counted, tell};

@@ -86,9 +86,10 @@ fn text_name(table: &Table, place: RatesTable) -> &str
 {
     match place {
         RatesTable::Top | RatesTable::Cluster | RatesTable::Link(_) => "",
-        RatesTable::Node(_) | RatesTable::Process(_) | RatesTable::Message(_) | RatesTable::Chain(_) => {
-            tables::name_at(table, place)
-        }
+        RatesTable::Node(_)
+        | RatesTable::Process(_)
+        | RatesTable::Message(_)
+        | RatesTable::Chain(_) => { tables::name_at(table, place) }
     }
 }
 

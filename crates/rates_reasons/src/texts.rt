@@ -16,8 +16,8 @@ use crate::spots::text_spot;
 use crate::tables::value_at;
 use crate::wanted::wanted;
 use instance_reasons::{
-    Found, Known, MissingKey, OddKey, OddName, Shape, TextReason, UnfitNumber, WrongKind,
-    found_of, names_under, near_of, nearest, unfit_of, unknown_name,
+    Found, Known, MissingKey, OddKey, OddName, Shape, TextReason, UnfitNumber, WrongKind, found_of,
+    names_under, near_of, nearest, unfit_of, unknown_name,
 };
 use instance_text::Key;
 use rates_text::{RatesKey, RatesTable, RatesTextError, keys_at};

@@ -1,4 +1,4 @@
-use Rattle.rates_reasons.proofs.Keys.{first_of_members}
+use Rattle.rates_reasons.proofs.FirstKeys.{first_of_members}
 use Rattle.rates_reasons.proofs.keys.first_unknown.Goals as goal
 
 pub loop-text-init : goal.loop-text-init

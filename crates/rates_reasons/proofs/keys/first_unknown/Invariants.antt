@@ -1,7 +1,7 @@
 use Rattle.std.proofs.Common.{◌≡◌}
 use Rattle.toml.specs.View.{table_view}
 use Rattle.rates_reasons.specs.Texts.{first_unknown}
-use Rattle.rates_reasons.proofs.Keys.{first_among}
+use Rattle.rates_reasons.proofs.FirstKeys.{first_among}
 use Rattle.rates_reasons.proofs.keys.first_unknown.Given as goal
 
 abbrev pub invariant-loop-text : goal.invariant-loop-text
