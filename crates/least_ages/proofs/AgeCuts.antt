@@ -9,9 +9,10 @@ use Rattle.ttp_model.specs.Plans.{IsValid}
 use Rattle.ttp_model.specs.Delays.{HasNoPlan}
 use Rattle.certificate.specs.Cert.{Cert}
 use Rattle.certificate.specs.Versions.{Allows}
-use Rattle.planner.specs.outcome.Options.{Options}
-use Rattle.planner.specs.outcome.Outcome.TheVariants as outcome
+use Rattle.plan_questions.specs.outcome.Options.{Options}
+use Rattle.plan_questions.specs.outcome.Outcome.TheVariants as outcome
 use Rattle.plan_questions.proofs.AnswerVersions.{answer_allows}
+use Rattle.rates_model.specs.declared.parts.Chain.{Chain}
 use Rattle.rates_model.specs.Rates.{Rates, chain_at}
 use Rattle.rates_model.specs.Rules.{IsRates}
 use Rattle.unrolled_jobs.specs.Unrolled.{unrolled}
@@ -43,6 +44,18 @@ asked a low most is rules base window bound fits ticks = record {
   fits = omega (arith, fits, bound);
   ticks = ticks;
 }
+
+-- a plan that is valid with some age, or with the bound where that is less, is valid, and the age of the chain in it is no more
+pub measured : (a : Aging) (most number : ℕ) (plan : Plan) → IsAging a → IsRates a.rates.now → IsInstance a.base.now
+    → most ≡ (chain_at a.rates.now a.chain).age → IsValid (aged a.rates.now a.chain (min number most)) plan
+    → IsValid (unrolled a.rates.now) plan × (own_age a.rates.now a.chain plan ≤ min number most)
+measured a most number plan is rules base bound v =
+    of_aged a.rates.now a.chain rules is.there (subst IsInstance is.base base) plan (min number most) (omega (arith, bound)) v
+
+-- what is told as the age of the chain is it
+pub is_own : (rho : Rates) (x : ℕ) → IsRates rho → x < length rho.chains → (plan : Plan) (chain : Chain) (age : ℕ) → chain ≡ chain_at rho x
+    → IsAge rho plan chain age → age ≡ own_age rho x plan
+is_own rho x rules inside plan chain age same is = same_age rho x rules inside plan age (subst (λ (it : Chain). IsAge rho plan it age) same is)
 
 module _ (rho : Rates) (x low most : ℕ) (q : IsAsked rho x low most) where
   within_bound : (age : ℕ) → min age most ≤ (chain_at rho x).age
@@ -134,20 +147,13 @@ module _ (rho : Rates) (x low most : ℕ) (q : IsAsked rho x low most) where
         let fitting = age-le_most age plan is.plan_at in
         lacks_room rho x q.rules q.instance q.there (age - 1) (omega (arith, fitting, q.bound)) plan (omega (arith, some, le, q.window))
 
-    pub one_less-le_bound : (age : ℕ) (plan : Plan) (below : Option Cert) → IsExact (age_cutting rho x low most) options age plan below → age - 1 ≤ (chain_at rho x).age
-    one_less-le_bound age plan below is = omega (arith, age-le_most age plan is.plan_at, q.bound)
-
-    -- what nothing but the windows shows is at their age
-    pub at_window : (age : ℕ) (plan : Plan) (below : Option Cert) → IsExact (age_cutting rho x low most) options age plan below → below ≡ None → age ≤ low
-    at_window age plan None is none = omega (arith, is.shown)
-    at_window age plan (Some cert) is none = absurd cc
-
     pub age_between : (from high : ℕ) (plan : Plan) (cert : Cert) → IsApart (age_cutting rho x low most) options from high plan cert
         → IsBetween rho x options from high plan
     age_between from high plan cert is =
         let half_way : min (middle from high) most ≡ middle from high = omega (arith, is.apart, age-le_most high plan is.plan_at) in
         record {
           lower = lower_is from is.lower;
+          window = omega (arith, is.least, q.window);
           apart = is.apart;
           has = has_age high plan is.plan_at;
           stopped = record { cert = cert; left = subst (λ (n : ℕ). IsLeftOpen (aged rho x n) options cert) half_way is.answer };
@@ -156,6 +162,7 @@ module _ (rho : Rates) (x low most : ℕ) (q : IsAsked rho x low most) where
     pub age_unknown : (cert : Cert) → IsLeftOpen (aged rho x (min most most)) options cert → IsUnknown rho x options low
     age_unknown cert left = record {
       lower = lower_is low age_cuts.lower;
+      window = q.window;
       stopped = record { cert = cert; left = subst (λ (it : Instance). IsLeftOpen it options cert) at_most left };
     }
 

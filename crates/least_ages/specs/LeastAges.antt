@@ -1,17 +1,17 @@
 -- What is answered of a chain whose age is to be small: its least age, or bounds of it, and what shows it. Times are ticks.
-use Rattle.std.specs.Prelude.{ℕ, ◌-◌, ◌<◌, ◌≤◌, length}
+use Rattle.std.specs.Prelude.{◌≡◌, ℕ, ◌-◌, ◌<◌, ◌≤◌, length}
 use Rattle.ttp_model.specs.declared.plan.Plan.{Plan}
 use Rattle.ttp_model.specs.Lists.{IsFirstFailure}
 use Rattle.ttp_model.specs.Rules.{CanEndInTime, IsInstance}
 use Rattle.ttp_model.specs.Plans.{IsValid}
 use Rattle.ttp_model.specs.Delays.{HasNoPlan}
 use Rattle.certificate.specs.Cert.{Cert}
-use Rattle.planner.specs.outcome.Options.{Options}
+use Rattle.plan_questions.specs.outcome.Options.{Options}
 use Rattle.rates_model.specs.Rates.{Rates, chain_at}
 use Rattle.unrolled_jobs.specs.Unrolled.{unrolled}
 use Rattle.job_ages.specs.Ages.{IsAge}
 use Rattle.job_ages.specs.Bounds.{IsLeastAge, IsLowerAge}
-use Rattle.age_variants.specs.Aging.{aged}
+use Rattle.age_variants.specs.Aging.{aged, window_age}
 use Rattle.plan_questions.specs.Cuts.{middle}
 use Rattle.plan_questions.specs.Searches.{IsShown, WasStopped}
 use Rattle.least_ages.specs.declared.answer.LeastAge.{LeastAge}
@@ -38,16 +38,19 @@ pub record IsWindow (rho : Rates) (x age job : ℕ) (plan : Plan) : Type 0 where
   pub some : 1 ≤ age
   pub full : IsFirstFailure (length (unrolled rho).processes) (CanEndInTime (aged rho x (age - 1))) job
 
--- No valid plan has an age below low, and this one has high; a search half way was stopped before it found one.
+-- No valid plan has an age below low, with which each job has room by itself, and this one has high; a search half way was stopped before it
+-- found one.
 pub record IsBetween (rho : Rates) (x : ℕ) (options : Options) (low high : ℕ) (plan : Plan) : Type 0 where
   pub lower : IsLowerAge rho x low
+  pub window : window_age rho x ≤ low
   pub apart : low < high
   pub has : HasOwnAge rho x high plan
   pub stopped : WasStopped (aged rho x (middle low high)) options
 
--- No valid plan has an age below low; the search for any plan was stopped before it found one.
+-- No valid plan has an age below low, the least with which each job has room by itself; the search for any plan was stopped before it found one.
 pub record IsUnknown (rho : Rates) (x : ℕ) (options : Options) (low : ℕ) : Type 0 where
   pub lower : IsLowerAge rho x low
+  pub window : low ≡ window_age rho x
   pub stopped : WasStopped (unrolled rho) options
 
 -- what is answered

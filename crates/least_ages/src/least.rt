@@ -39,6 +39,34 @@ fn exactly(
     }
 }
 
+/// What is answered where an instance is cut by the age of a chain.
+fn least_of<R: Threads + Wait + Sync, G: Gate + Sync>(
+    rt: &R,
+    asking: &Asking<'_, G>,
+    cut: &AgeCut<'_>,
+) -> Result<LeastAge, SolveFault>
+    requires aging { IsAging cut.now.aging.now }
+    requires asked { IsAsked cut.now.aging.now.rates.now cut.now.aging.now.chain cut.now.low cut.now.most }
+    ensures { IfOk result (IsAnswer cut.now.aging.now.rates.now cut.now.aging.now.chain asking.now.options) }
+{
+    let least = least_number(rt, asking, cut)?;
+    match least {
+        LeastNumber::Exact {
+            number: age,
+            plan,
+            below,
+        } => Ok(exactly(cut, asking.options, age, plan, below)),
+        LeastNumber::Apart {
+            low,
+            high,
+            plan,
+            ..
+        } => Ok(LeastAge::Between { low, high, plan }),
+        LeastNumber::Open { .. } => Ok(LeastAge::Unknown { low: cut.low }),
+        LeastNumber::Never { .. } => Ok(LeastAge::Never),
+    }
+}
+
 /// The least age that a chain can have in any valid plan of the instance of one cycle, told for ever, and a plan that has it. Searches
 /// first for any plan: what the chain has there is an age that it can have, and with less than its windows leave none is valid. Then the
 /// search half way between tells whether it can have less, and so on. Each search ends at its first plan, and has the whole budget; where
@@ -57,20 +85,5 @@ pub fn least_age<R: Threads + Wait + Sync, G: Gate + Sync>(
     let low = window_age(aging);
     let most = aging.rates.chain_at(aging.chain).age;
     let cut = AgeCut { aging, low, most };
-    let least = least_number(rt, asking, &cut)?;
-    match least {
-        LeastNumber::Exact {
-            number: age,
-            plan,
-            below,
-        } => Ok(exactly(&cut, asking.options, age, plan, below)),
-        LeastNumber::Apart {
-            low,
-            high,
-            plan,
-            ..
-        } => Ok(LeastAge::Between { low, high, plan }),
-        LeastNumber::Open { .. } => Ok(LeastAge::Unknown { low }),
-        LeastNumber::Never { .. } => Ok(LeastAge::Never),
-    }
+    least_of(rt, asking, &cut)
 }
