@@ -10,4 +10,4 @@ Round::apart-returns-clause-searching g t c =
 pub Round::share-apart-requires-clause-front : goal.Round::share-apart-requires-clause-front
 Round::share-apart-requires-clause-front g t c κs within =
     let i = c.args.self.now.site.now.instance.now in
-    subst (All (IsTask i)) (sym c.in-Ok-split_off.ensures.items) (All-take (IsTask i) c.halves-at.result.0 c.args.tasks.items c.requires.tasks)
+    subst (All (IsTask i)) (sym c.in-Ok.ensures.items) (All-take (IsTask i) c.halves-at.result.0 c.args.tasks.items c.requires.tasks)

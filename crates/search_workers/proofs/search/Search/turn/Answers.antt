@@ -3,7 +3,7 @@ use Rattle.std.proofs.lemmas.List.Elements.{All-contains}
 use Rattle.search_workers.specs.Task.{Task, IsTask}
 use Rattle.search_workers.specs.Gains.{IsGain}
 use Rattle.search_workers.specs.Searching.{limit_of, IsSearchingOf}
-use Rattle.search_workers.proofs.Searching.{begun, last_there}
+use Rattle.search_workers.proofs.Searching.{last_there}
 use Rattle.search_workers.proofs.search.Search.turn.Goals as goal
 
 pub work_task-requires-clause-task : goal.work_task-requires-clause-task

@@ -1,6 +1,6 @@
 use Rattle.std.proofs.Common.{◌≤◌, ◌+◌, vec_len}
 use Rattle.search_workers.specs.Workbench.{IsWorkbenchOf}
-use Rattle.search_workers.specs.Searching.{IsSomeSearch, SearchGoesOn}
+use Rattle.search_workers.specs.Searching.{SearchGoesOn}
 use Rattle.search_workers.proofs.search.Search.turns_below.Given as goal
 
 abbrev pub invariant-loop-turn : goal.invariant-loop-turn
