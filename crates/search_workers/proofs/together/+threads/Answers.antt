@@ -1,6 +1,6 @@
 use Rattle.std.proofs.Common.{All, sym, subst, rules}
 use Rattle.std.proofs.lemmas.List.Elements.{All-take}
-use Rattle.search_workers.specs.Task.{Task, IsTask}
+use Rattle.search_workers.specs.Task.{IsTask}
 use Rattle.search_workers.proofs.together.+threads.Goals as goal
 
 pub Round::apart-returns-clause-searching : goal.Round::apart-returns-clause-searching

@@ -1,8 +1,8 @@
-use Rattle.std.proofs.Common.{◌++◌, [], All, None}
+use Rattle.std.proofs.Common.{◌++◌, [], None}
 use Rattle.std.proofs.lemmas.List.{append-nil}
 use Rattle.std.proofs.lemmas.List.Elements.{All-append}
 use Rattle.std.proofs.lemmas.List.Sorted.{IsPermutation-append_comm}
-use Rattle.search_workers.specs.Task.{Task, IsTask}
+use Rattle.search_workers.specs.Task.{IsTask}
 use Rattle.search_workers.specs.Searching.{IsSearchingOf}
 use Rattle.search_workers.proofs.Searching.{begun, in_any_order, roots_are}
 use Rattle.search_workers.proofs.together.both.Goals as goal

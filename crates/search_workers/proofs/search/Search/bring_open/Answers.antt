@@ -1,6 +1,6 @@
 use Rattle.std.proofs.Common.{All, sym, subst, arith}
 use Rattle.std.proofs.lemmas.List.Sorted.{length_permutation}
-use Rattle.search_workers.specs.Task.{Task, IsTask}
+use Rattle.search_workers.specs.Task.{IsTask}
 use Rattle.search_workers.proofs.Searching.{in_any_order}
 use Rattle.search_workers.proofs.search.Search.bring_open.Goals as goal
 

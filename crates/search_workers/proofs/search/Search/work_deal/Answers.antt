@@ -1,5 +1,5 @@
 use Rattle.std.proofs.Common.{[], ◌∷◌}
-use Rattle.search_workers.specs.Task.{Task, IsTask, root_task}
+use Rattle.search_workers.specs.Task.{IsTask, root_task}
 use Rattle.search_workers.proofs.Searching.{back_all}
 use Rattle.search_workers.proofs.search.Search.work_deal.Goals as goal
 
