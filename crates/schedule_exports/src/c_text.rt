@@ -4,6 +4,8 @@ use crate::loads::{NodeLoad, Run, Turn};
 use crate::origin::{Origin, Sum};
 use medl_tables::Entry;
 use plan_reasons::Cycle;
+use sentences::Word::{Number, Text};
+use sentences::tell;
 use std::fmt;
 use ttp_model::{Instance, Part};
 
@@ -126,18 +128,18 @@ struct Measures<'a> {
 impl<'a> fmt::Display for Measures<'a> {
     fn fmt<W: fmt::Write>(&self, f: &mut fmt::Formatter<W>) -> fmt::Result {
         let (text, cycle) = (self.text, self.text.cycle);
-        let (delay, rounds, round, ticks) = (
-            text.origin.delay,
-            cycle.rounds,
-            cycle.round,
-            cycle.next,
-        );
-        let (channels, loaded) = (text.instance.cluster().channels, text.loads.len());
-        writeln!(f, "#define TT_DELAY {delay}\n#define TT_ROUND {round}")?;
-        writeln!(f, "#define TT_ROUNDS {rounds}\n#define TT_CYCLE {ticks}")?;
-        writeln!(
+        let numbers = [
+            Number(text.origin.delay),
+            Number(cycle.round),
+            Number(u64::from(cycle.rounds)),
+            Number(cycle.next),
+            Number(u64::from(text.instance.cluster().channels)),
+            Number(text.loads.len() as u64),
+        ];
+        tell(
             f,
-            "#define TT_CHANNELS {channels}\n#define TT_LOADED {loaded}"
+            "#define TT_DELAY {}\n#define TT_ROUND {}\n#define TT_ROUNDS {}\n#define TT_CYCLE {}\n#define TT_CHANNELS {}\n#define TT_LOADED {}\n",
+            &numbers,
         )
     }
 }
@@ -192,10 +194,11 @@ impl<'a> fmt::Display for Numbers<'a> {
     fn fmt<W: fmt::Write>(&self, f: &mut fmt::Formatter<W>) -> fmt::Result {
         let (one, all) = words_of(self.part);
         let count = self.instance.name_count(self.part);
-        writeln!(f, "#define TT_{all} {count}")?;
+        tell(f, "#define TT_{} {}\n", &[Text(all), Number(count as u64)])?;
         for k in 0..count {
             let name = name_at(self.instance, self.part, k);
-            writeln!(f, "#define TT_{one}_{name} {k}")?;
+            let words = [Text(one), Text(name), Number(k as u64)];
+            tell(f, "#define TT_{}_{} {}\n", &words)?;
         }
         Ok(())
     }
@@ -280,19 +283,20 @@ impl<'a> fmt::Display for Runs<'a> {
         if self.runs.is_empty() {
             return Ok(());
         }
-        writeln!(
+        tell(
             f,
-            "static const struct tt_process tt_processes_{node}[] = {{"
+            "static const struct tt_process tt_processes_{}[] = {\n",
+            &[Text(node)],
         )?;
         for run in self.runs {
-            let (process, start, end) = (
-                self.instance.process_name(run.process as usize),
-                run.start,
-                run.end,
-            );
-            writeln!(f, "    {{ TT_PROCESS_{process}, {start}, {end} }},")?;
+            let words = [
+                Text(self.instance.process_name(run.process as usize)),
+                Number(u64::from(run.start)),
+                Number(run.end),
+            ];
+            tell(f, "    { TT_PROCESS_{}, {}, {} },\n", &words)?;
         }
-        writeln!(f, "}};\n")
+        f.write_str("};\n\n")
     }
 }
 
@@ -311,21 +315,20 @@ impl<'a> fmt::Display for Frame<'a> {
         if entries.is_empty() {
             return Ok(());
         }
-        writeln!(
+        let words = [
+            Number(u64::from(round)),
+            Number(u64::from(position)),
+            Text(node),
+        ];
+        tell(
             f,
-            "static const struct tt_message tt_frame_{round}_{position}_{node}[] = {{"
+            "static const struct tt_message tt_frame_{}_{}_{}[] = {\n",
+            &words,
         )?;
         for entry in entries {
-            write!(
-                f,
-                "{}",
-                Carried {
-                    instance: self.instance,
-                    entry: *entry
-                }
-            )?;
+            tell_carried(f, self.instance, *entry)?;
         }
-        writeln!(f, "}};\n")
+        f.write_str("};\n\n")
     }
 }
 
@@ -337,29 +340,19 @@ pub fn bytes_of(instance: &Instance, m: u32) -> u32 {
     }
 }
 
-/// A message of a frame.
-#[derive(Clone, Copy)]
-struct Carried<'a> {
-    instance: &'a Instance,
+/// Tells a message of a frame.
+fn tell_carried<W: fmt::Write>(
+    f: &mut fmt::Formatter<W>,
+    instance: &Instance,
     entry: Entry,
-}
-
-impl<'a> fmt::Display for Carried<'a> {
-    fn fmt<W: fmt::Write>(&self, f: &mut fmt::Formatter<W>) -> fmt::Result {
-        let Entry {
-            message,
-            channel,
-            offset,
-        } = self.entry;
-        let (name, bytes) = (
-            self.instance.message_name(message as usize),
-            bytes_of(self.instance, message),
-        );
-        writeln!(
-            f,
-            "    {{ TT_MESSAGE_{name}, {channel}, {offset}, {bytes} }},"
-        )
-    }
+) -> fmt::Result {
+    let words = [
+        Text(instance.message_name(entry.message as usize)),
+        Number(u64::from(entry.channel)),
+        Number(u64::from(entry.offset)),
+        Number(u64::from(bytes_of(instance, entry.message))),
+    ];
+    tell(f, "    { TT_MESSAGE_{}, {}, {}, {} },\n", &words)
 }
 
 /// The array of the cycle's slots, where there are any.
@@ -376,42 +369,44 @@ impl<'a> fmt::Display for Slots<'a> {
         if self.turns.is_empty() {
             return Ok(());
         }
-        writeln!(f, "static const struct tt_slot tt_slots_{node}[] = {{")?;
+        tell(
+            f,
+            "static const struct tt_slot tt_slots_{}[] = {\n",
+            &[Text(node)],
+        )?;
         for turn in self.turns {
-            write!(
-                f,
-                "{}",
-                SlotLine {
-                    instance,
-                    node,
-                    turn: *turn
-                }
-            )?;
+            tell_slot(f, instance, node, *turn)?;
         }
-        writeln!(f, "}};\n")
+        f.write_str("};\n\n")
     }
 }
 
-/// A slot of the cycle.
-#[derive(Clone, Copy)]
-struct SlotLine<'a> {
+/// Tells a slot of the cycle.
+fn tell_slot<'a, W: fmt::Write>(
+    f: &mut fmt::Formatter<W>,
     instance: &'a Instance,
     node: &'a str,
     turn: Turn<'a>,
-}
-
-impl<'a> fmt::Display for SlotLine<'a> {
-    fn fmt<W: fmt::Write>(&self, f: &mut fmt::Formatter<W>) -> fmt::Result {
-        let (start, end, row) = (self.turn.start, self.turn.end, self.turn.row);
-        let (round, position, capacity) = (row.round, row.position, row.capacity);
-        let (node, sender) = (self.node, self.instance.node_name(row.sender as usize));
-        write!(
-            f,
-            "    {{ {round}, {position}, TT_NODE_{sender}, {start}, {end}, {capacity}, "
-        )?;
-        match row.messages.as_slice().len() {
-            0 => writeln!(f, "0, 0 }},"),
-            count => writeln!(f, "{count}, tt_frame_{round}_{position}_{node} }},"),
+) -> fmt::Result {
+    let row = turn.row;
+    let (round, position) = (
+        Number(u64::from(row.round)),
+        Number(u64::from(row.position)),
+    );
+    let words = [
+        round,
+        position,
+        Text(instance.node_name(row.sender as usize)),
+        Number(turn.start),
+        Number(turn.end),
+        Number(u64::from(row.capacity)),
+    ];
+    tell(f, "    { {}, {}, TT_NODE_{}, {}, {}, {}, ", &words)?;
+    match row.messages.as_slice().len() {
+        0 => f.write_str("0, 0 },\n"),
+        count => {
+            let words = [Number(count as u64), round, position, Text(node)];
+            tell(f, "{}, tt_frame_{}_{}_{} },\n", &words)
         }
     }
 }
@@ -423,37 +418,30 @@ struct Line<'a> {
     load: &'a NodeLoad<'a>,
 }
 
-/// An array with its length; where it is empty there is none.
-#[derive(Clone, Copy)]
-struct Array<'a> {
-    name: &'static str,
-    node: &'a str,
+/// Tells an array with its length; where it is empty there is none.
+fn tell_array<'n, W: fmt::Write>(
+    f: &mut fmt::Formatter<W>,
+    name: &'n str,
+    node: &'n str,
     count: usize,
-}
-
-impl<'a> fmt::Display for Array<'a> {
-    fn fmt<W: fmt::Write>(&self, f: &mut fmt::Formatter<W>) -> fmt::Result {
-        let (name, node) = (self.name, self.node);
-        match self.count {
-            0 => write!(f, "0, 0"),
-            count => write!(f, "{count}, {name}_{node}"),
-        }
+) -> fmt::Result {
+    match count {
+        0 => f.write_str("0, 0"),
+        count => tell(
+            f,
+            "{}, {}_{}",
+            &[Number(count as u64), Text(name), Text(node)],
+        ),
     }
 }
 
 impl<'a> fmt::Display for Line<'a> {
     fn fmt<W: fmt::Write>(&self, f: &mut fmt::Formatter<W>) -> fmt::Result {
         let node = self.instance.node_name(self.load.node as usize);
-        let processes = Array {
-            name: "tt_processes",
-            node,
-            count: self.load.runs.len(),
-        };
-        let slots = Array {
-            name: "tt_slots",
-            node,
-            count: self.load.turns.len(),
-        };
-        writeln!(f, "    {{ TT_NODE_{node}, {processes}, {slots} }},")
+        tell(f, "    { TT_NODE_{}, ", &[Text(node)])?;
+        tell_array(f, "tt_processes", node, self.load.runs.len())?;
+        f.write_str(", ")?;
+        tell_array(f, "tt_slots", node, self.load.turns.len())?;
+        f.write_str(" },\n")
     }
 }

@@ -5,6 +5,8 @@ use crate::loads::{NodeLoad, Run, Turn};
 use crate::origin::{Origin, Sum};
 use medl_tables::Entry;
 use plan_reasons::Cycle;
+use sentences::Word::{Number, Text};
+use sentences::tell;
 use std::fmt;
 use ttp_model::Instance;
 
@@ -25,8 +27,12 @@ pub fn comma(k: usize) -> &'static str {
 impl<'a> fmt::Display for JsonText<'a> {
     fn fmt<W: fmt::Write>(&self, f: &mut fmt::Formatter<W>) -> fmt::Result {
         let (instance, loads, cycle) = (self.instance, self.loads, self.cycle);
-        let (rounds, round, ticks) = (cycle.rounds, cycle.round, cycle.next);
-        let channels = instance.cluster().channels;
+        let numbers = [
+            Number(cycle.round),
+            Number(u64::from(cycle.rounds)),
+            Number(cycle.next),
+            Number(u64::from(instance.cluster().channels)),
+        ];
         writeln!(
             f,
             "{{\n{},",
@@ -34,11 +40,11 @@ impl<'a> fmt::Display for JsonText<'a> {
                 origin: self.origin
             }
         )?;
-        writeln!(
+        tell(
             f,
-            "  \"round\": {round},\n  \"rounds\": {rounds},\n  \"cycle\": {ticks},"
+            "  \"round\": {},\n  \"rounds\": {},\n  \"cycle\": {},\n  \"channels\": {},\n  \"nodes\": [",
+            &numbers,
         )?;
-        write!(f, "  \"channels\": {channels},\n  \"nodes\": [")?;
         for k in 0..loads.len() {
             let (before, load) = (comma(k), &loads[k]);
             write!(f, "{before}\n{}", Load { instance, load })?;
@@ -102,15 +108,17 @@ impl<'a> fmt::Display for Runs<'a> {
     fn fmt<W: fmt::Write>(&self, f: &mut fmt::Formatter<W>) -> fmt::Result {
         let runs = self.runs;
         for k in 0..runs.len() {
-            let (before, run) = (comma(k), runs[k]);
-            let (name, start, end) = (
-                self.instance.process_name(run.process as usize),
-                run.start,
-                run.end,
-            );
-            write!(
+            let run = runs[k];
+            let words = [
+                Text(comma(k)),
+                Text(self.instance.process_name(run.process as usize)),
+                Number(u64::from(run.start)),
+                Number(run.end),
+            ];
+            tell(
                 f,
-                "{before}\n        {{\"name\": \"{name}\", \"start\": {start}, \"end\": {end}}}"
+                "{}\n        {\"name\": \"{}\", \"start\": {}, \"end\": {}}",
+                &words,
             )?;
         }
         Ok(())
@@ -144,44 +152,44 @@ struct SlotObject<'a> {
 
 impl<'a> fmt::Display for SlotObject<'a> {
     fn fmt<W: fmt::Write>(&self, f: &mut fmt::Formatter<W>) -> fmt::Result {
-        let (start, end, row) = (self.turn.start, self.turn.end, self.turn.row);
-        let (round, position, capacity) = (row.round, row.position, row.capacity);
-        let (instance, entries) = (self.instance, row.messages.as_slice());
-        let sender = instance.node_name(row.sender as usize);
-        write!(
+        let (instance, row) = (self.instance, self.turn.row);
+        let entries = row.messages.as_slice();
+        let words = [
+            Number(u64::from(row.round)),
+            Number(u64::from(row.position)),
+            Text(instance.node_name(row.sender as usize)),
+            Number(self.turn.start),
+            Number(self.turn.end),
+            Number(u64::from(row.capacity)),
+        ];
+        tell(
             f,
-            "{{\"round\": {round}, \"position\": {position}, \"sender\": \"{sender}\", \"start\": {start}, \"end\": {end}, "
+            "{\"round\": {}, \"position\": {}, \"sender\": \"{}\", \"start\": {}, \"end\": {}, \"capacity\": {}, \"messages\": [",
+            &words,
         )?;
-        write!(f, "\"capacity\": {capacity}, \"messages\": [")?;
         for k in 0..entries.len() {
-            let (before, entry) = (comma(k), entries[k]);
-            write!(f, "{before}{}", Carried { instance, entry })?;
+            f.write_str(comma(k))?;
+            tell_carried(f, instance, entries[k])?;
         }
-        write!(f, "]}}")
+        f.write_str("]}")
     }
 }
 
-/// A message of a frame.
-#[derive(Clone, Copy)]
-struct Carried<'a> {
-    instance: &'a Instance,
+/// Tells a message of a frame.
+fn tell_carried<W: fmt::Write>(
+    f: &mut fmt::Formatter<W>,
+    instance: &Instance,
     entry: Entry,
-}
-
-impl<'a> fmt::Display for Carried<'a> {
-    fn fmt<W: fmt::Write>(&self, f: &mut fmt::Formatter<W>) -> fmt::Result {
-        let Entry {
-            message,
-            channel,
-            offset,
-        } = self.entry;
-        let (name, bytes) = (
-            self.instance.message_name(message as usize),
-            bytes_of(self.instance, message),
-        );
-        write!(
-            f,
-            "{{\"name\": \"{name}\", \"channel\": {channel}, \"offset\": {offset}, \"bytes\": {bytes}}}"
-        )
-    }
+) -> fmt::Result {
+    let words = [
+        Text(instance.message_name(entry.message as usize)),
+        Number(u64::from(entry.channel)),
+        Number(u64::from(entry.offset)),
+        Number(u64::from(bytes_of(instance, entry.message))),
+    ];
+    tell(
+        f,
+        "{\"name\": \"{}\", \"channel\": {}, \"offset\": {}, \"bytes\": {}}",
+        &words,
+    )
 }

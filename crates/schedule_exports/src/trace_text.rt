@@ -5,6 +5,8 @@ use crate::json_text::{Made, comma};
 use crate::loads::Run;
 use crate::origin::Origin;
 use plan_sheets::Slot;
+use sentences::Word::{Number, Text};
+use sentences::tell;
 use std::fmt;
 use ttp_model::Instance;
 
@@ -37,8 +39,8 @@ impl fmt::Display for Track {
             Group::Nodes => 1,
             Group::Channels => 2,
         };
-        let track = u64::from(self.1) + 1;
-        write!(f, "\"pid\": {group}, \"tid\": {track}")
+        let words = [Number(group), Number(u64::from(self.1) + 1)];
+        tell(f, "\"pid\": {}, \"tid\": {}", &words)
     }
 }
 
@@ -182,27 +184,36 @@ struct SlotEvent<'a> {
 impl<'a> fmt::Display for SlotEvent<'a> {
     fn fmt<W: fmt::Write>(&self, f: &mut fmt::Formatter<W>) -> fmt::Result {
         let slot = self.slot;
-        let (round, start, capacity, used) = (slot.round, slot.start, slot.capacity, slot.used);
-        let (track, ticks) = (
-            Track(Group::Channels, slot.channel),
-            slot.end.saturating_sub(start),
-        );
-        let (frame, frame_end) = (slot.frame, slot.frame_end);
         let node = self.instance.node_name(slot.node as usize);
-        write!(f, "{{\"ph\": \"X\", \"cat\": \"slot\", \"name\": \"{node}")?;
-        for m in slot.messages.as_slice() {
-            let name = self.instance.message_name(*m as usize);
-            write!(f, " {name}")?;
-        }
-        write!(
+        tell(
             f,
-            "\", {track}, \"ts\": {start}, \"dur\": {ticks}, \"args\": {{\"round\": {round}, "
+            "{\"ph\": \"X\", \"cat\": \"slot\", \"name\": \"{}",
+            &[Text(node)],
         )?;
-        write!(
-            f,
-            "\"frame\": {frame}, \"frame_end\": {frame_end}, \"capacity\": {capacity}, \"used\": {used}}}}}"
-        )
+        for m in slot.messages.as_slice() {
+            tell(f, " {}", &[Text(self.instance.message_name(*m as usize))])?;
+        }
+        write!(f, "\", {}, ", Track(Group::Channels, slot.channel))?;
+        tell_times(f, slot)
     }
+}
+
+/// Tells when a slot is, and its frame, and how full that is.
+fn tell_times<W: fmt::Write>(f: &mut fmt::Formatter<W>, slot: &Slot) -> fmt::Result {
+    let numbers = [
+        Number(slot.start),
+        Number(slot.end.saturating_sub(slot.start)),
+        Number(u64::from(slot.round)),
+        Number(slot.frame),
+        Number(slot.frame_end),
+        Number(u64::from(slot.capacity)),
+        Number(u64::from(slot.used)),
+    ];
+    tell(
+        f,
+        "\"ts\": {}, \"dur\": {}, \"args\": {\"round\": {}, \"frame\": {}, \"frame_end\": {}, \"capacity\": {}, \"used\": {}}}",
+        &numbers,
+    )
 }
 
 /// A message on its way: an arrow from the last tick of its sender through its slot to its receiver.
