@@ -1,4 +1,4 @@
-use Rattle.std.proofs.Common.{◌-◌, min, arith}
+use Rattle.std.proofs.Common.{arith}
 use Rattle.least_ages.proofs.AgeCuts.{is_own, measured}
 use Rattle.least_ages.proofs.age_cut.own_age.Goals as goal
 

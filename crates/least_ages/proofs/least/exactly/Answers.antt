@@ -20,7 +20,7 @@ returns-then-age-cut c =
     let a = c.args.cut.now.aging.now in
     let job = c.first_without_room-job.result in
     let full = subst (λ (it : Instance). IsFirstFailure (length it.processes) (CanEndInTime (aged a.rates.now a.chain (c.args.age - 1))) job)
-        c.requires.aging.base c.first_without_room-job.ensures in
+    c.requires.aging.base c.first_without_room-job.ensures in
     age_window _ _ _ _ c.requires.asked c.args.options c.args.age job c.args.plan c.args.below c.requires.exact full
 
 pub returns : goal.returns
