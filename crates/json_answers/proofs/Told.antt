@@ -29,7 +29,8 @@ module _ {E : Type 0} (in_memory : E → E) (IsOr : ObjectFault → E → E → 
 
   -- of two
   pub told_of_two : (IsAnswer : List ℕ → List ℕ → Option (List ℕ) → Option (List ℕ) → E → Type 0) (a b : Option (List ℕ))
-      → IfSome a (λ i. IfSome b (λ p. IsAnswer i p (Some begun) (Some text) at)) → IfSome a (λ i. IfSome b (λ p. IsToldBy in_memory IsOr (IsAnswer i p) old new end))
+      → IfSome a (λ i. IfSome b (λ p. IsAnswer i p (Some begun) (Some text) at))
+      → IfSome a (λ i. IfSome b (λ p. IsToldBy in_memory IsOr (IsAnswer i p) old new end))
   told_of_two IsAnswer a b answers = IfSome_then a answers (λ i. told_of_one (IsAnswer i) b)
 
   -- of three

@@ -5,5 +5,6 @@ use Rattle.json_commands.proofs.explaining.explain_certificate_json.Goals as goa
 
 pub returns-clause-answer : goal.returns-clause-answer
 returns-clause-answer g c =
-    told_of_two end_in_memory IsEndOr _ c.explain_certificate-end.new.out.items c.explain_certificate-end.result _ _ _ c.new-text.ensures.items c.tell.ensures IsCertificateExplained _ _
+    told_of_two end_in_memory IsEndOr _ c.explain_certificate-end.new.out.items c.explain_certificate-end.result _ _ _
+    c.new-text.ensures.items c.tell.ensures IsCertificateExplained _ _
     c.explain_certificate-end.ensures.answer

@@ -5,5 +5,6 @@ use Rattle.json_commands.proofs.explaining.explain_instance_json.Goals as goal
 
 pub returns-clause-answer : goal.returns-clause-answer
 returns-clause-answer g c =
-    told_of_one end_in_memory IsEndOr _ c.explain_instance-end.new.out.items c.explain_instance-end.result _ _ _ c.new-text.ensures.items c.tell.ensures IsInstanceExplained _
+    told_of_one end_in_memory IsEndOr _ c.explain_instance-end.new.out.items c.explain_instance-end.result _ _ _
+    c.new-text.ensures.items c.tell.ensures IsInstanceExplained _
     c.explain_instance-end.ensures.answer

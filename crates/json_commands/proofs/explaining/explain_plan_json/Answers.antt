@@ -5,5 +5,6 @@ use Rattle.json_commands.proofs.explaining.explain_plan_json.Goals as goal
 
 pub returns-clause-answer : goal.returns-clause-answer
 returns-clause-answer g c =
-    told_of_two end_in_memory IsEndOr _ c.explain_plan-end.new.out.items c.explain_plan-end.result _ _ _ c.new-text.ensures.items c.tell.ensures IsPlanExplained _ _
+    told_of_two end_in_memory IsEndOr _ c.explain_plan-end.new.out.items c.explain_plan-end.result _ _ _
+    c.new-text.ensures.items c.tell.ensures IsPlanExplained _ _
     c.explain_plan-end.ensures.answer

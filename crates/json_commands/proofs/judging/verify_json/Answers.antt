@@ -5,4 +5,5 @@ use Rattle.json_commands.proofs.judging.verify_json.Goals as goal
 
 pub returns-clause-verdict : goal.returns-clause-verdict
 returns-clause-verdict g c =
-    told_of_two end_in_memory IsEndOr _ c.verify-end.new.out.items c.verify-end.result _ _ _ c.new-text.ensures.items c.tell.ensures IsVerdict _ _ c.verify-end.ensures.verdict
+    told_of_two end_in_memory IsEndOr _ c.verify-end.new.out.items c.verify-end.result _ _ _
+    c.new-text.ensures.items c.tell.ensures IsVerdict _ _ c.verify-end.ensures.verdict

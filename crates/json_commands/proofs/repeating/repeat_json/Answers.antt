@@ -5,5 +5,6 @@ use Rattle.json_commands.proofs.repeating.repeat_json.Goals as goal
 
 pub returns-clause-answer : goal.returns-clause-answer
 returns-clause-answer g c =
-    told_of_one rates_in_memory IsRatesEndOr _ c.repeat_run-end.new.out.items c.repeat_run-end.result _ _ _ c.new-text.ensures.items c.tell_repeat.ensures IsRepeatAnswer _
+    told_of_one rates_in_memory IsRatesEndOr _ c.repeat_run-end.new.out.items c.repeat_run-end.result _ _ _
+    c.new-text.ensures.items c.tell_repeat.ensures IsRepeatAnswer _
     c.repeat_run-end.ensures.answer

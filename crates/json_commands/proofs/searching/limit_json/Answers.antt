@@ -11,5 +11,6 @@ returns-in-Ok-clause-answer g c =
 
 pub returns-clause-answer : goal.returns-clause-answer
 returns-clause-answer g c =
-    told_of_one end_in_memory IsEndOr _ c.limit_run-end.new.out.items c.limit_run-end.result _ _ _ c.new-text.ensures.items (untold_telling _ _ _ c.untold.ensures)
+    told_of_one end_in_memory IsEndOr _ c.limit_run-end.new.out.items c.limit_run-end.result _ _ _
+    c.new-text.ensures.items (untold_telling _ _ _ c.untold.ensures)
     (λ (bytes : List ℕ). IsLimitAnswer bytes _ _ _ _ _ _ _) _ c.limit_run-end.ensures.answer
