@@ -42,6 +42,11 @@ IsUnrollReason rho (unrolled.TooMany part) = Unit {0}
 IsUnrollReason rho (unrolled.Refused refused) = (r : RuleReason) × IsRuleReason (unrolled rho) refused.error r
 IsUnrollReason rho unrolled.OutOfMemory = ⊥
 
+-- the reason of a fault that is one
+abbrev pub IsReasonOf : Rates → RatesFault → Type 0
+IsReasonOf rho (Unrolled wrong) = IsUnrollReason rho wrong
+IsReasonOf rho _ = ⊥
+
 -- a cluster whose cycle has no instance: why, and the reason of that
 pub record TellsUnrolled (rho : Rates) (text : List ℕ) : Type 0 where
   pub wrong : UnrollFault

@@ -52,10 +52,7 @@ fn told_unrolled(alloc: Global, rates: &Rates, wrong: UnrollFault) -> Result<Str
     let mut text = String::new(alloc);
     let fault = RatesFault::Unrolled(wrong);
     put_line(&mut text, &fault)?;
-    let RatesFault::Unrolled(wrong) = fault else {
-        return Err(MemoryFault);
-    };
-    put_refused(alloc, &mut text, rates, wrong)?;
+    put_refused(alloc, &mut text, rates, fault)?;
     Ok(text)
 }
 

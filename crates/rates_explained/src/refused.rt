@@ -4,10 +4,12 @@ ghost use Rattle.std.specs.Prelude.{OnOk, string_bytes};
 ghost use Rattle.sentences.specs.Shown.{Gains, IsShown};
 ghost use Rattle.unrolled_jobs.specs.Refusals.{IsRefused, IsUnrollFault};
 ghost use Rattle.unrolled_jobs.specs.declared.unrolling.UnrollFault.TheVariants as unrolled;
-ghost use Rattle.rates_explained.specs.Telling.{IsUnrollReason};
+ghost use Rattle.rates_command.specs.Answers.{IsOfUnrolling};
+ghost use Rattle.rates_explained.specs.Telling.{IsReasonOf, IsUnrollReason};
 
 use instance_reasons::{RuleReason, entry_words, rule_reason};
 use instance_text::Parts;
+use rates_command::RatesFault;
 use rates_model::Rates;
 use sentences::Word::{Number, Text};
 use sentences::{put, tell};
@@ -82,7 +84,7 @@ fn put_broken(
 }
 
 /// Adds why there is no instance.
-pub fn put_refused(
+fn put_unrolled(
     alloc: Global,
     text: &mut String,
     rates: &Rates,
@@ -99,5 +101,27 @@ pub fn put_refused(
         }
         UnrollFault::Refused(refused) => put_broken(alloc, text, rates, refused),
         UnrollFault::OutOfMemory => Err(MemoryFault),
+    }
+}
+
+/// Adds it where that is the fault.
+pub fn put_refused(
+    alloc: Global,
+    text: &mut String,
+    rates: &Rates,
+    fault: RatesFault,
+) -> Result<(), MemoryFault>
+    requires { IsOfUnrolling rates.now fault }
+    ensures reason { OnOk result (IsReasonOf rates.now fault) }
+    ensures words { OnOk result (Gains IsShown (string_bytes text.old) (string_bytes text.new)) }
+{
+    match fault {
+        RatesFault::Unrolled(wrong) => put_unrolled(alloc, text, rates, wrong),
+        RatesFault::Memory
+        | RatesFault::Text(_)
+        | RatesFault::Unread
+        | RatesFault::TooLong
+        | RatesFault::OfPlan(_)
+        | RatesFault::Unwritten => Err(MemoryFault),
     }
 }
