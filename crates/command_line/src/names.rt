@@ -24,7 +24,10 @@ fn parts<'a>(alloc: Global, name: &'a str) -> Result<Vec<&'a str>, AllocError>
 fn is_rooted(name: &str) -> bool
     ensures { result ≡ is_rooted name.now }
 {
-    name.as_bytes().first() == Some(&b'/')
+    match name.as_bytes() {
+        [first, ..] => *first == b'/',
+        [] => false,
+    }
 }
 
 /// Whether two words name one file, as far as the words tell: `./k.toml` and `k.toml` do, and so do `a//b` and `a/b`.
