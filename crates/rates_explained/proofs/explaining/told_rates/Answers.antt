@@ -1,4 +1,4 @@
-use Rattle.std.proofs.Common.{◌≡◌, inr, List, ℕ, [], string_bytes, subst, sym}
+use Rattle.std.proofs.Common.{inr, List, ℕ, [], string_bytes, subst, sym}
 use Rattle.sentences.specs.Shown.{Gains, IsShown}
 use Rattle.rates_explained.proofs.explaining.told_rates.Goals as goal
 
