@@ -1,8 +1,12 @@
 -- An answer to how old what a chain carries has to be has what its texts ask for, and what was found is told once it is written.
-use Rattle.std.proofs.Common.{◌≡◌, ℕ, ◌-◌, ◌<◌, ◌≤◌, List, length, Option, None, Some, Result, Ok, Err, IfSome, MatchResult, arith, inl, inr, refl, sym, subst}
+use Rattle.std.proofs.Common.{◌≡◌, ℕ, ◌-◌, ◌<◌, ◌≤◌, List, length, Bool, true, false, Option, None, Some, Result, Ok, Err, IfOk, IfSome, MatchResult, arith, inl, inr, refl, sym, subst}
+use Rattle.std.specs.Io.KnownBytes.{Keeps}
+use Rattle.std.specs.Global.{Vec}
+use Rattle.ttp_model.specs.declared.error.MemoryFault.{MemoryFault}
 use Rattle.ttp_model.specs.Instance.{Instance}
 use Rattle.rates_model.specs.Rates.{Rates}
 use Rattle.unrolled_jobs.specs.Unrolled.{unrolled}
+use Rattle.age_variants.specs.Aging.{aged}
 use Rattle.plan_questions.specs.outcome.Options.{Options}
 use Rattle.least_ages.specs.declared.answer.LeastAge.{LeastAge}
 use Rattle.least_ages.specs.declared.answer.LeastAge.TheVariants.{Least, Window, Between, Unknown, Never}
@@ -11,7 +15,7 @@ use Rattle.least_ages.proofs.AgeCuts.{age_allows}
 use Rattle.command_streams.specs.declared.ending.Fault.TheVariants as fault
 use Rattle.command_streams.specs.declared.ending.End.{End}
 use Rattle.command_streams.specs.declared.ending.End.TheVariants as end
-use Rattle.command_streams.specs.Writing.{IsWritingOf}
+use Rattle.command_streams.specs.Writing.{IsTextOf, IsWritingOf}
 use Rattle.question_commands.specs.declared.limit_texts.Beside.{Beside}
 use Rattle.question_commands.specs.Limited.{HasValidPlan}
 use Rattle.rates_command.specs.declared.ending.RatesFault.{RatesFault}
@@ -22,13 +26,14 @@ use Rattle.age_command.specs.declared.ages.Aged.{Aged}
 use Rattle.age_command.specs.declared.ending.AgeEnd.{AgeEnd}
 use Rattle.age_command.specs.declared.ending.AgeEnd.TheVariants.{Searched, NoSuchChain, OfRates}
 use Rattle.age_command.specs.Chains.{HasName, loose}
-use Rattle.age_command.specs.Texts.{HasJob, IsPrintable, end_told, plan_of}
+use Rattle.age_command.specs.Texts.{HasJob, IsPrintable, IsTextWithLess, end_told, plan_of}
 use Rattle.age_command.specs.Answers.{IsAgeAnswer, IsAged, IsAgedBy, IsAgedOf, IsNoAgeOf, IsUnaged, IsUnloosened}
 
 module _ (rho : Rates) (x : ℕ) (options : Options) where
   -- the instance that was searched has a text, and so has the certificate
   pub printable : (least : LeastAge) → IsAnswer rho x options least → IsPrintable rho x least
   printable (Least age plan cert) is = record {
+    some = is.some;
     less = omega (arith, is.within);
     rules = is.lawful;
     allows = age_allows rho x options age plan cert is;
@@ -57,6 +62,12 @@ module _ (rho : Rates) (x : ℕ) (options : Options) where
     -- its plan is valid
     pub plan_valid : (least : LeastAge) → IsAnswer rho x options least → HasValidPlan base (plan_of least)
     plan_valid least is = subst (λ (it : Instance). HasValidPlan it (plan_of least)) (sym same) (own_valid least is)
+
+-- what is wanted is the text of the instance with one less
+pub with_less : (wanted : Bool) (rho : Rates) (x age : ℕ) (less : Instance) (text : Result (Option (Vec ℕ)) MemoryFault) → wanted ≡ true
+    → less ≡ aged rho x (age - 1) → IfOk text (IsTextOf less) → IfOk text (IsTextWithLess wanted rho x age)
+with_less true rho x age less text asked same is = subst (λ (it : Instance). IfOk text (IsTextOf it)) same is
+with_less false rho x age less text asked same is = absurd cc
 
 -- a chain that may be as old as can be said has no answer, and so its name has none
 unloosened : (rho : Rates) (name : List ℕ) (x : ℕ) → HasName rho name x → (told : AgeEnd) → IsUnloosened (loose rho x) told → IsNoAgeOf rho name told
@@ -98,3 +109,15 @@ pub told_age : (known : Option (List ℕ)) (name : List ℕ) (beside : Beside) (
 told_age None name beside options aged from to before after old new at is writing = tt
 told_age (Some bytes) name beside options aged from to before after old new at is writing =
     inl (record { aged = aged; is = is; telling = writing })
+
+kept : (known : Option (List ℕ)) → Keeps known known
+kept None = tt
+kept (Some bytes) = refl
+
+-- where there is none, that is told, and nothing is written
+pub untold_age : (known : Option (List ℕ)) (name : List ℕ) (beside : Beside) (options : Options) (from before old : Option (List ℕ)) (told : AgeEnd)
+    → IfSome known (λ bytes. IsUnaged bytes name told)
+    → IfSome known (λ bytes. IsAgeAnswer bytes name beside options from from before before old old told)
+untold_age None name beside options from before old told lacking = tt
+untold_age (Some bytes) name beside options from before old told lacking =
+    inr (record { lacking = lacking; certificate = kept from; reduced = kept before; answer = kept old })

@@ -67,6 +67,7 @@ end_told Never = Absent
 
 -- of an answer that a search showed, the instance that it searched keeps all rules, and its certificate has a text
 pub record IsSearched (rho : Rates) (x age : ℕ) (cert : Cert) : Type 0 where
+  pub some : 1 ≤ age
   pub less : age - 1 ≤ (chain_at rho x).age
   pub rules : IsInstance (aged rho x (age - 1))
   pub allows : Allows cert.version cert.tree

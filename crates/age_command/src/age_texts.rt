@@ -57,6 +57,7 @@ fn text_with_less(
     wanted: bool,
 ) -> Result<Option<Vec<u8>>, MemoryFault>
     requires aging { IsAging aging.now }
+    requires some { 1 ≤ age }
     requires less { age - 1 ≤ (chain_at aging.now.rates.now aging.now.chain).age }
     requires rules { IsInstance (aged aging.now.rates.now aging.now.chain (age - 1)) }
     ensures { IfOk result (IsTextWithLess wanted aging.now.rates.now aging.now.chain age) }
@@ -64,7 +65,7 @@ fn text_with_less(
     if !wanted {
         return Ok(Some(Vec::new(alloc)));
     }
-    let less = with_age(alloc, aging, age.saturating_sub(1))?;
+    let less = with_age(alloc, aging, age - 1)?;
     instance_text(alloc, &less)
 }
 
