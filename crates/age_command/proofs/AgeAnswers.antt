@@ -1,5 +1,5 @@
 -- An answer to how old what a chain carries has to be has what its texts ask for, and what was found is told once it is written.
-use Rattle.std.proofs.Common.{◌≡◌, ℕ, ◌-◌, ◌<◌, ◌≤◌, List, length, Bool, true, false, Option, None, Some, Result, Ok, Err, IfOk, IfSome, MatchResult, arith, inl, inr, refl, sym, subst}
+use Rattle.std.proofs.Common.{◌≡◌, ℕ, ◌-◌, ◌<◌, List, length, Bool, true, false, Option, None, Some, Result, Ok, Err, IfOk, IfSome, MatchResult, arith, inl, inr, refl, sym, subst}
 use Rattle.std.specs.Io.KnownBytes.{Keeps}
 use Rattle.std.specs.Global.{Vec}
 use Rattle.ttp_model.specs.declared.error.MemoryFault.{MemoryFault}
@@ -24,7 +24,7 @@ use Rattle.rates_command.specs.declared.ending.RatesEnd.TheVariants as rates
 use Rattle.rates_command.specs.Answers.{AreRefusedFor, HasRates}
 use Rattle.age_command.specs.declared.ages.Aged.{Aged}
 use Rattle.age_command.specs.declared.ending.AgeEnd.{AgeEnd}
-use Rattle.age_command.specs.declared.ending.AgeEnd.TheVariants.{Searched, NoSuchChain, OfRates}
+use Rattle.age_command.specs.declared.ending.AgeEnd.TheVariants.{Searched, OfRates}
 use Rattle.age_command.specs.Chains.{HasName, loose}
 use Rattle.age_command.specs.Texts.{HasJob, IsPrintable, IsTextWithLess, end_told, plan_of}
 use Rattle.age_command.specs.Answers.{IsAgeAnswer, IsAged, IsAgedBy, IsAgedOf, IsNoAgeOf, IsUnaged, IsUnloosened}

@@ -1,4 +1,4 @@
-use Rattle.std.proofs.Common.{◌≡◌, ◌≢◌, ◌∙◌, ℕ, length, arith, sym, ap, below_more}
+use Rattle.std.proofs.Common.{◌≢◌, ◌∙◌, length, arith, sym, ap, below_more}
 use Rattle.std.specs.Cmp.Lexicographic.{other_text, same_text}
 use Rattle.rates_model.specs.declared.parts.Chain.{Chain}
 use Rattle.rates_model.specs.Rates.{chain_at}
