@@ -22,7 +22,8 @@ use Rattle.rates_reasons.specs.Reasons.{IsRatesReason, IsReadAgain, IsReasonIn}
 use Rattle.rates_reasons.specs.Texts.{IsOfTable}
 
 module _ (bytes : List ℕ) where
-  said : (e : RatesTextError) (r : RatesReason) (x : Unparsed) → IsNoDocument bytes → e ≡ NotToml → IsReasonIn (again.NotToml x) e r → IsRatesReason bytes NotToml r
+  said : (e : RatesTextError) (r : RatesReason) (x : Unparsed) → IsNoDocument bytes → e ≡ NotToml → IsReasonIn (again.NotToml x) e r
+      → IsRatesReason bytes NotToml r
   said e (reason.NotToml r) x none is _ = none
   said e (reason.Text r) x none is never = absurd never
   said e (reason.Rule r) x none is never = absurd never

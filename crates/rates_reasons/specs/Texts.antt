@@ -20,7 +20,8 @@ use Rattle.rates_text.specs.declared.error.RatesKey.{RatesKey}
 use Rattle.rates_text.specs.declared.error.RatesTable.{RatesTable}
 use Rattle.rates_text.specs.declared.error.RatesTable.TheVariants.{Top, Cluster, Node, Process, Link, Message, Chain}
 use Rattle.rates_text.specs.declared.error.RatesTextError.{RatesTextError}
-use Rattle.rates_text.specs.declared.error.RatesTextError.TheVariants.{MissingKey, NotToml, OutOfMemory, OutOfRange, Refused, UnknownKey, UnknownName, WrongKind}
+use Rattle.rates_text.specs.declared.error.RatesTextError.TheVariants.{MissingKey, NotToml, OutOfMemory, OutOfRange, Refused}
+use Rattle.rates_text.specs.declared.error.RatesTextError.TheVariants.{UnknownKey, UnknownName, WrongKind}
 use Rattle.rates_text.specs.Keys.{text_of}
 use Rattle.rates_text.specs.Tables.{has_key, keys_at}
 use Rattle.rates_reasons.specs.Spots.{IsRatesTextSpot}
