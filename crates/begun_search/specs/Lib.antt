@@ -1,0 +1,3 @@
+pub mod Sharp
+pub mod Begun
+pub mod Replay
