@@ -102,6 +102,7 @@ module _ (rho : Rates) (plan : Plan) (w : IsRates rho) (i : IsInstance (unrolled
         subst (λ (z : ℕ). ends_at rho plan d (Job p k) ≤ starts_at rho plan c (Job z j)) after
         (subst (λ (z : ℕ). ends_at rho plan d (Job z k) ≤ starts_at rho plan c (Job (link_at rho l).after j)) before (endless.links l c j d k there ways))
 
+    -- a message's receiver starts behind the slot, and that is behind the sender's end
     by_message : (m : ℕ) → m < length rho.messages → (message_at rho m).sender ≡ p → Contains (message_at rho m).receivers q → (message_at rho m).delay ≡ 0
         → Reads rho p q 0 (job_from_all rho q c j) (job_from_all rho p d k) → ends_at rho plan d (Job p k) ≤ starts_at rho plan c (Job q j)
     by_message m there sender receives none reads =

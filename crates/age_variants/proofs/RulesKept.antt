@@ -88,6 +88,7 @@ module _ (rho : Rates) (x age : ℕ) where
       in_range (AtMessage m) = w.ranges (AtMessage m)
       in_range (AtChain c) = age_inside c
 
+      -- rule by rule
       pub rules_kept : IsRates aged
       rules_kept = record {
         limits = record {
