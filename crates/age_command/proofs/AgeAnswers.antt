@@ -21,7 +21,7 @@ use Rattle.question_commands.specs.Limited.{HasValidPlan}
 use Rattle.rates_command.specs.declared.ending.RatesFault.{RatesFault}
 use Rattle.rates_command.specs.declared.ending.RatesFault.TheVariants.{Unrolled}
 use Rattle.rates_command.specs.declared.ending.RatesEnd.TheVariants as rates
-use Rattle.rates_command.specs.Answers.{AreRefusedFor, HasRates}
+use Rattle.rates_command.specs.Answers.{AreRefusedFor, HasRates, IsOfBytes}
 use Rattle.age_command.specs.declared.ages.Aged.{Aged}
 use Rattle.age_command.specs.declared.ending.AgeEnd.{AgeEnd}
 use Rattle.age_command.specs.declared.ending.AgeEnd.TheVariants.{Searched, OfRates}
@@ -97,9 +97,9 @@ aged_of_bytes (Some bytes) name beside options rho (Err told) has is = inl (reco
 
 -- none to bytes that state no cluster
 pub unread_bytes : (known : Option (List ℕ)) (name : List ℕ) (why : RatesFault) → IfSome known (λ bytes. AreRefusedFor bytes why)
-    → IfSome known (λ bytes. IsUnaged bytes name (OfRates (rates.Refused why)))
-unread_bytes None name why is = tt
-unread_bytes (Some bytes) name why is = inr (why, is, refl)
+    → IsOfBytes why → IfSome known (λ bytes. IsUnaged bytes name (OfRates (rates.Refused why)))
+unread_bytes None name why is alone = tt
+unread_bytes (Some bytes) name why is alone = inr (why, is, alone, refl)
 
 -- what was found of a reader's bytes is the answer, once it is written
 pub told_age : (known : Option (List ℕ)) (name : List ℕ) (beside : Beside) (options : Options) (aged : Aged)

@@ -13,7 +13,7 @@ use Rattle.question_commands.specs.declared.limit_texts.Beside.{Beside}
 use Rattle.rates_command.specs.declared.ending.RatesFault.{RatesFault}
 use Rattle.rates_command.specs.declared.ending.RatesFault.TheVariants.{Unrolled}
 use Rattle.rates_command.specs.declared.ending.RatesEnd.TheVariants as rates
-use Rattle.rates_command.specs.Answers.{AreRefusedFor, HasRates}
+use Rattle.rates_command.specs.Answers.{AreRefusedFor, HasRates, IsOfBytes}
 use Rattle.age_command.specs.declared.ages.Aged.{Aged}
 use Rattle.age_command.specs.declared.ending.AgeEnd.{AgeEnd}
 use Rattle.age_command.specs.declared.ending.AgeEnd.TheVariants.{Searched, NoSuchChain, OfRates}
@@ -75,7 +75,8 @@ pub record IsUnanswered (bytes name : List ℕ) (told : AgeEnd) : Type 0 where
 
 -- why bytes and a name have no answer: there is none to the cluster that the bytes state, or they state none
 abbrev pub IsUnaged : List ℕ → List ℕ → AgeEnd → Type 0
-IsUnaged bytes name told = IsUnanswered bytes name told ⊎ ((why : RatesFault) × AreRefusedFor bytes why × (told ≡ OfRates (rates.Refused why)))
+IsUnaged bytes name told =
+    IsUnanswered bytes name told ⊎ ((why : RatesFault) × AreRefusedFor bytes why × IsOfBytes why × (told ≡ OfRates (rates.Refused why)))
 
 -- an answer is written, and told at this end
 abbrev pub IsTellingOf : Aged → (from to before after old new : Option (List ℕ)) → AgeEnd → Type 0

@@ -37,6 +37,14 @@ AreRefusedFor bytes TooLong = RATES_LIMIT < length bytes
 AreRefusedFor bytes (OfPlan fault) = ⊥
 AreRefusedFor bytes Unwritten = ⊥
 
+-- the fault is one of the bytes alone, whatever is made of what they state
+abbrev pub IsOfBytes : RatesFault → Type 0
+IsOfBytes Memory = Unit {0}
+IsOfBytes (Text error) = Unit {0}
+IsOfBytes Unread = Unit {0}
+IsOfBytes TooLong = Unit {0}
+IsOfBytes _ = ⊥
+
 -- a text that states the instance of a cycle
 pub record IsUnrolledText (bytes text : List ℕ) : Type 0 where
   pub rates : Rates

@@ -1,9 +1,9 @@
 //! Which cluster of several rates do the bytes of a reader state?
 
-ghost use Rattle.std.specs.Prelude.{◌≡◌, ◌+◌, ◌≤◌, IfOk, IfSome, MatchResult, length};
+ghost use Rattle.std.specs.Prelude.{◌≡◌, ◌+◌, ◌≤◌, IfErr, IfOk, IfSome, MatchResult, length};
 ghost use Rattle.command_streams.specs.Streams.{TakesAtMost};
 ghost use Rattle.rates_command.specs.declared.limits.TheConstants.{RATES_LIMIT};
-ghost use Rattle.rates_command.specs.Answers.{AreRefusedFor, HasRates};
+ghost use Rattle.rates_command.specs.Answers.{AreRefusedFor, HasRates, IsOfBytes};
 
 use crate::ending::RatesFault;
 use crate::limits::RATES_LIMIT;
@@ -17,6 +17,7 @@ fn read_bytes<R: Read>(alloc: Global, reader: &mut R) -> Result<Vec<u8>, RatesFa
     ensures judged { IfSome (R.remaining reader.old) (λ bytes. MatchResult result
         (λ read. read.items ≡ bytes)
         (AreRefusedFor bytes)) }
+    ensures alone { IfErr result IsOfBytes }
     ensures within { IfOk result (λ read. length read.items ≤ RATES_LIMIT) }
     ensures most { TakesAtMost (RATES_LIMIT + 1) (R.remaining reader.old) (R.remaining reader.new) }
 {
@@ -34,6 +35,7 @@ fn read_bytes<R: Read>(alloc: Global, reader: &mut R) -> Result<Vec<u8>, RatesFa
 fn rates_of_text(alloc: Global, bytes: &[u8]) -> Result<Rates, RatesFault>
     requires { length bytes.now ≤ RATES_LIMIT }
     ensures judged { MatchResult result (HasRates bytes.now) (AreRefusedFor bytes.now) }
+    ensures alone { IfErr result IsOfBytes }
 {
     match rates_text::read(alloc, bytes) {
         Ok(rates) => Ok(rates),
@@ -46,6 +48,7 @@ pub fn read_rates<R: Read>(alloc: Global, reader: &mut R) -> Result<Rates, Rates
     ensures judged { IfSome (R.remaining reader.old) (λ bytes. MatchResult result
         (HasRates bytes)
         (AreRefusedFor bytes)) }
+    ensures alone { IfErr result IsOfBytes }
     ensures most { TakesAtMost (RATES_LIMIT + 1) (R.remaining reader.old) (R.remaining reader.new) }
 {
     let bytes = read_bytes(alloc, reader)?;
