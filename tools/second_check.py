@@ -1067,12 +1067,15 @@ def is_number(word):
     return NUMBER.fullmatch(word) is not None and not is_too_great(word)
 
 
+WHY_WORDS = b"budget", b"memory", b"until", b"time", b"gap", b"part"  # why a search stopped
+
+
 def says_plan(line):
     """Whether the line that a search prints in front of a plan says that it found one; None of any other line."""
     words = line.split(b" ")
     if len(words) == 2 and words[0] == b"limit":
         return True if is_number(words[1]) else None
-    if len(words) == 4 and words[0] == b"stopped" and words[1] in (b"budget", b"memory", b"until", b"time", b"gap"):
+    if len(words) == 4 and words[0] == b"stopped" and words[1] in WHY_WORDS:
         words = words[1:]
     elif len(words) != 3 or words[0] != b"between":
         return None

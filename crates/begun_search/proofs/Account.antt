@@ -3,7 +3,7 @@ use Rattle.std.proofs.Common.{◌≡◌, List, [], ◌∷◌, ◌++◌, Option, 
 use Rattle.std.proofs.lemmas.List.{reverse-append, reverse-reverse, map-append}
 use Rattle.std.proofs.lemmas.List.Sorted.{IsPermutation-append_right, IsPermutation-append_comm, IsPermutation-reverse}
 use Rattle.ttp_model.specs.Instance.{Instance}
-use Rattle.search_trees.specs.Gathering.{HasGoal}
+use Rattle.search_workers.specs.Gathering.{HasGoal}
 use Rattle.search_workers.specs.piece.Piece.{Piece}
 use Rattle.search_workers.specs.Task.{Task, IsTask, choice_of, root_task}
 use Rattle.search_workers.specs.Tasks.{Turn, IsTurn, born}

@@ -11,7 +11,7 @@ use Rattle.certificate.specs.declared.branch.Branch.{Branch}
 use Rattle.certificate.specs.declared.node.Node.{Node}
 use Rattle.certificate.specs.declared.node.Node.TheVariants as node
 use Rattle.tree_check.specs.Proofs.{choices_below, ClosesFrom, Suits}
-use Rattle.search_trees.specs.Gathering.{HasGoal}
+use Rattle.search_workers.specs.Gathering.{HasGoal}
 use Rattle.search_workers.specs.piece.Piece.{Piece}
 use Rattle.search_workers.specs.Pieces.{IsRight}
 use Rattle.search_workers.specs.Task.{Task, choice_of}
@@ -22,10 +22,10 @@ use Rattle.search_workers.specs.Searching.{IsSearching}
 use Rattle.begun_search.specs.declared.replay.Replay.{Replay}
 use Rattle.begun_search.specs.Begun.{nodes_of, is_open, outline, stays}
 use Rattle.begun_search.specs.Replay.{ProveAll, Stands, IsReplay, TakesTurn, Splits, StaysClosed, StaysOpen, EndsAt, Takes, GoesThrough}
-use Rattle.begun_search.proofs.Children.{kids_choices, no_kids}
+use Rattle.begun_search.proofs.ChildrenStand.{kids_choices, no_kids}
 use Rattle.begun_search.proofs.Nodes.{first_suits, others_prove}
 use Rattle.begun_search.proofs.Account.{turned, left_open, next_choices, choices_in_front}
-use Rattle.begun_search.proofs.Leaves.{leaves_more, nodes_more, outlines_more}
+use Rattle.begun_search.proofs.OpenLeaves.{leaves_more, nodes_more, outlines_more}
 
 module _ (i : Instance) (aims : Aims) (best : Option FoundPlan) (low : ℕ) (nodes : List Node) (mid : Replay) (t : Task) (one : Node)
     (s : Stands i aims best low mid.aim mid.pieces.items mid.tasks.items mid.leaves.items (mid.next.items ++ t ∷ []) (one ∷ nodes)) where

@@ -1,8 +1,10 @@
 -- What holds of a request.
-use Rattle.std.specs.Prelude.{◌≤◌, ℕ, List, All, length, IfSome}
+use Rattle.std.specs.Prelude.{◌<◌, ◌≤◌, ℕ, List, All, length, IfSome}
 use Rattle.command_line.specs.declared.words.Request.{Request}
 use Rattle.command_line.specs.declared.words.Request.TheVariants.{OfRounds, OnFiles, Solve, Why as Asking, Limit as Limiting, Margin as Lengthening, Age as Aging, Join}
 use Rattle.command_line.specs.declared.words.Effort.{Effort}
+use Rattle.command_line.specs.declared.words.Continued.{Continued}
+use Rattle.command_line.specs.declared.words.Part.{Part}
 use Rattle.command_line.specs.declared.words.Search.{Search}
 use Rattle.command_line.specs.declared.words.Question.{Question}
 use Rattle.command_line.specs.declared.words.Limit.{Limit}
@@ -31,9 +33,19 @@ pub record IsSoundEffort (effort : Effort) : Type 0 where
   pub some : 1 ≤ effort.workers
   pub few : effort.workers ≤ 16
 
+-- a part is one of at most 1,000,000, counted from 0
+pub record IsSoundPart (part : Part) : Type 0 where
+  pub inside : part.number < part.count
+  pub few : part.count ≤ 1000000
+
+-- by its name a file isn't the certificate from which a search goes on
+abbrev pub IsNotFrom : List ℕ → Continued → Type 0
+IsNotFrom file from = IsOtherFile file from.certificate.now
+
 -- by its name a file is none that a search reads
 abbrev pub IsApart : Search → List ℕ → Type 0
-IsApart search file = IsOtherFile file search.instance.now × IfSome search.start (λ plan. IsOtherFile file plan.now)
+IsApart search file =
+    IsOtherFile file search.instance.now × (IfSome search.start (λ plan. IsOtherFile file plan.now) × IfSome search.from (IsNotFrom file))
 
 -- the numbers of a search are sound; by their names the files that it writes are none that it reads, and not the same, but that a plan may be
 -- kept in the file of the one to begin with
@@ -41,7 +53,9 @@ pub record IsSoundSearch (search : Search) : Type 0 where
   pub effort : IsSoundEffort search.effort
   pub certificate : IfSome search.certificate (λ file. IsApart search file.now)
   pub kept : IfSome search.kept (λ file. IsOtherFile file.now search.instance.now)
+  pub kept_apart : IfSome search.kept (λ file. IfSome search.from (IsNotFrom file.now))
   pub both : IfSome search.kept (λ file. IfSome search.certificate (λ other. IsOtherFile file.now other.now))
+  pub part : IfSome search.from (λ from. IfSome from.part IsSoundPart)
 
 -- the same of a question: it reads the instance alone
 pub record IsSoundQuestion (question : Question) : Type 0 where

@@ -8,7 +8,7 @@ use crate::given::Given;
 use crate::joining::join_request;
 use crate::misuse::Misuse;
 use crate::options::{
-    ANY_PLAN, CERTIFICATE, EXPLAINED_CERT, EXPLAINED_PLAN, EXPLAINED_RATES, FORMAT, INSTANCE,
+    ANY_PLAN, CERTIFICATE, EXPLAINED_CERT, EXPLAINED_PLAN, EXPLAINED_RATES, FORMAT, INSTANCE, LONG,
     NEW_INSTANCE, NEW_PLAN, OLD_INSTANCE, OLD_PLAN, RATES, UNROLLED_PLAN,
 };
 use crate::searching::{age_request, limit_request, margin_request, solve_request, why_request};
@@ -104,6 +104,7 @@ fn check_request<'a>(given: Given<'_, 'a>) -> Result<Request<'a>, Misuse<'a>>
     Ok(Request::Check {
         instance,
         certificate,
+        is_long: given.flag(LONG),
     })
 }
 
@@ -119,6 +120,7 @@ fn judge_request<'a>(given: Given<'_, 'a>) -> Result<Request<'a>, Misuse<'a>>
         instance,
         plan,
         certificate,
+        is_long: given.flag(LONG),
         form,
     })
 }

@@ -39,7 +39,7 @@ fn form_named(name: &str) -> Option<AnswerForm> {
 }
 
 /// Whether a second word names the same file, where there is one.
-fn is_named_by(alloc: Global, file: &str, other: Option<&str>) -> Result<bool, AllocError>
+pub fn is_named_by(alloc: Global, file: &str, other: Option<&str>) -> Result<bool, AllocError>
     ensures { IfOk result (λ same. same ≡ false → IfSome other.entry (λ name. IsOtherFile file.now name.now)) }
 {
     match other {

@@ -7,6 +7,7 @@ mod given;
 mod joining;
 mod misuse;
 mod names;
+mod onward;
 mod options;
 mod refusal;
 mod rows;
@@ -22,6 +23,6 @@ pub use refusal::refuse;
 pub use rows::Row;
 pub use table::Asks;
 pub use words::{
-    Age, AnswerForm, Effort, Explained, Joining, Limit, Margin, Question, Request, RoundsTask,
-    Search, Task, VERSION, Why, all,
+    Age, AnswerForm, Continued, Effort, Explained, Joining, Limit, Margin, Part, Question, Request,
+    RoundsTask, Search, Task, VERSION, Why, all,
 };

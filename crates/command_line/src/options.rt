@@ -242,6 +242,30 @@ pub const START: &Row = &Row {
     help: "Begins with this plan: what is printed takes no longer. It is refused as by `ttplan verify` where it isn't valid",
 };
 
+/// The certificate from which a search goes on.
+pub const FROM: &Row = &Row {
+    name: "from",
+    place: Place::Option("CERT"),
+    takes: Takes::Text,
+    help: "Goes on from this certificate: its leaves below the delay to beat are open again, and all else is kept. It is refused as by `ttplan check` where it isn't right",
+};
+
+/// Which of its open leaves are worked.
+pub const PART: &Row = &Row {
+    name: "part",
+    place: Place::Option("K/N"),
+    takes: Takes::Text,
+    help: "Works only those open leaves of CERT, numbered from 0, whose number is K modulo N, with K below N, and N at most 1000000: other machines work the others, and `ttplan join` joins their certificates",
+};
+
+/// Whether one thread works the subtree with the fewest branches above it.
+pub const WIDE: &Row = &Row {
+    name: "wide",
+    place: Place::Flag,
+    takes: Takes::Nothing,
+    help: "Works the subtree with the fewest branches above it, by one thread and no worker, so that a certificate has many open leaves, none much larger than others: a tree to be dealt in parts",
+};
+
 /// The file of a certificate that is written.
 pub const CERT: &Row = &Row {
     name: "cert",
@@ -249,9 +273,9 @@ pub const CERT: &Row = &Row {
     takes: Takes::File(Written {
         sink: Sink::Certificate,
         over_instance: OVER_INSTANCE,
-        over_other: "that is the plan's file, which would be emptied",
+        over_other: "that is a file with which the search begins, which would be emptied",
     }),
-    help: "Also writes the certificate that proves the answer, whichever it is, to this file, before the answer is printed; `ttplan check INSTANCE FILE` accepts it. A file that is there is emptied first; INSTANCE itself is refused, and PLAN",
+    help: "Also writes the certificate that proves the answer, whichever it is, to this file, before the answer is printed; `ttplan check INSTANCE FILE` accepts it. A file that is there is emptied first; INSTANCE itself is refused, and PLAN, and CERT",
 };
 
 /// The file of the certificate that there is no plan.
@@ -298,6 +322,14 @@ pub const EXPLAINED_CERT: &Row = &Row {
     help: "Explains this certificate, in place of a plan",
 };
 
+/// Whether a certificate that is judged may be long.
+pub const LONG: &Row = &Row {
+    name: "long",
+    place: Place::Flag,
+    takes: Takes::Nothing,
+    help: "Reads a CERT of up to 1099511627776 bytes, in place of 268435456: its text and its tree are in memory for a while, and one thread checks it",
+};
+
 /// Whether what is explained is a cluster of several rates.
 pub const EXPLAINED_RATES: &Row = &Row {
     name: "rates",
@@ -315,7 +347,7 @@ pub const KEEP: &Row = &Row {
         over_instance: OVER_KEPT,
         over_other: OVER_KEPT,
     }),
-    help: "Keeps the best plan so far in this file, at every time as a whole, so that an interrupt leaves it there: a better one is written to FILE.new, or to FILE.new.1 and so on where that is somebody's, which is then renamed. A plan for INSTANCE that stands there stays until a better one is found. INSTANCE and the certificate's file are refused",
+    help: "Keeps the best plan so far in this file, at every time as a whole, so that an interrupt leaves it there: a better one is written to FILE.new, or to FILE.new.1 and so on where that is somebody's, which is then renamed. A plan for INSTANCE that stands there stays until a better one is found. INSTANCE, CERT and the certificate's file are refused",
 };
 
 /// Whether a search says how far it is.

@@ -5,10 +5,11 @@ ghost use Rattle.command_line.specs.Requests.{IsSound, IsSoundEffort, IsSoundQue
 
 use crate::given::Given;
 use crate::misuse::Misuse;
+use crate::onward::{apart_from, onward_of};
 use crate::options::{
     BUDGET, CERT, CERT_OF_LAST, CERT_OF_LESS, CERT_OF_MORE, CERT_OF_NONE, CHAIN, FORMAT, GAP,
     INSTANCE, KEEP, LATE, PERMILLE, PROCESSES, PROGRESS, RATES, REDUCED, RUNNERS, SEARCH_BUDGET,
-    SEARCHED, SECONDS, START, UNTIL, WITH_LESS, WITH_MORE, WITHIN, WORKERS,
+    SEARCHED, SECONDS, START, UNTIL, WIDE, WITH_LESS, WITH_MORE, WITHIN, WORKERS,
 };
 use crate::rows::Row;
 use crate::words::{Age, AnswerForm, Effort, Limit, Margin, Question, Request, Search, Why};
@@ -36,14 +37,19 @@ fn search_of<'a>(alloc: Global, given: Given<'_, 'a>) -> Result<Search<'a>, Misu
 {
     let instance = given.text(INSTANCE)?;
     let start = given.text_if_any(START);
+    let from = onward_of(given)?;
     let certificate = given.written(alloc, CERT, instance, start)?;
+    apart_from(alloc, CERT, certificate, &from)?;
     let kept = given.written(alloc, KEEP, instance, certificate)?;
+    apart_from(alloc, KEEP, kept, &from)?;
     let effort = effort_of(given, BUDGET)?;
     let until = given.u32_if_any(UNTIL)?;
     let gap = given.u32(GAP)?;
     Ok(Search {
         instance,
         start,
+        from,
+        is_wide: given.flag(WIDE),
         certificate,
         kept,
         effort,

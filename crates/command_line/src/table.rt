@@ -2,11 +2,11 @@
 
 use crate::options::{
     ANY_PLAN, BUDGET, CERT, CERT_OF_ALL, CERT_OF_LAST, CERT_OF_LESS, CERT_OF_MORE, CERT_OF_NONE,
-    CERTIFICATE, CERTIFICATES, CHAIN, EXPLAINED_CERT, EXPLAINED_PLAN, EXPLAINED_RATES, FORMAT, GAP,
-    INSTANCE, KEEP, LATE, LOSSES, NEW_INSTANCE, NEW_PLAN, NODE, OLD_INSTANCE, OLD_PLAN,
-    PERIOD_TICKS, PERMILLE, PLAN, PROCESSES, PROGRESS, RATES, REDUCED, ROUNDS, RUNNERS,
-    SCHEDULE_FORMAT, SEARCH_BUDGET, SEARCHED, SEARCHES_PROGRESS, SECONDS, START, TABLE,
-    UNROLLED_PLAN, UNTIL, USED, WIDTH, WITH_LESS, WITH_MORE, WITHIN, WORKERS,
+    CERTIFICATE, CERTIFICATES, CHAIN, EXPLAINED_CERT, EXPLAINED_PLAN, EXPLAINED_RATES, FORMAT,
+    FROM, GAP, INSTANCE, KEEP, LATE, LONG, LOSSES, NEW_INSTANCE, NEW_PLAN, NODE, OLD_INSTANCE,
+    OLD_PLAN, PART, PERIOD_TICKS, PERMILLE, PLAN, PROCESSES, PROGRESS, RATES, REDUCED, ROUNDS,
+    RUNNERS, SCHEDULE_FORMAT, SEARCH_BUDGET, SEARCHED, SEARCHES_PROGRESS, SECONDS, START, TABLE,
+    UNROLLED_PLAN, UNTIL, USED, WIDE, WIDTH, WITH_LESS, WITH_MORE, WITHIN, WORKERS,
 };
 use crate::rows::Row;
 
@@ -48,10 +48,11 @@ const SOLVE: &CommandRow = &CommandRow {
     name: "solve",
     about: "Prints a valid plan with the least delay, or `none`, or bounds where the search is stopped",
     rows: &[
-        INSTANCE, WORKERS, BUDGET, UNTIL, GAP, SECONDS, START, CERT, KEEP, PROGRESS,
+        INSTANCE, WORKERS, BUDGET, UNTIL, GAP, SECONDS, START, FROM, PART, WIDE, CERT, KEEP,
+        PROGRESS,
     ],
     after: Some(
-        "It prints one of these, and ends with the status beside it:\n   0  the text of a plan: it is valid, and no valid plan has a smaller delay\n  10  `none`: no plan is valid\n  11  `stopped WHY LOW BEST`, and behind it the text of the best plan found\n\nWHY is `budget`, where the budget is spent, `memory`, where memory ran out, `until`, where the best plan found is as short as was asked for, `gap`, where no plan is shorter by more ticks than were asked for, or `time`, where the seconds have passed. No valid plan has a delay below LOW ticks. BEST is the delay of the best plan found, or `none`, and then no text follows.\n\nA search that is interrupted prints no plan, and its certificate's file is empty; with --keep its best plan so far is left. To go in steps, begin with a small budget, and take ten times as much after each `stopped budget`. Each run begins anew; those before the last work at most a ninth of its budget.\n\nBefore the search a good plan is looked for, where more than 32 are left to choose: nodes to place, capacities, pairs of processes, and binary digits of rounds.",
+        "It prints one of these, and ends with the status beside it:\n   0  the text of a plan: it is valid, and no valid plan has a smaller delay\n  10  `none`: no plan is valid\n  11  `stopped WHY LOW BEST`, and behind it the text of the best plan found\n\nWHY is `budget`, where the budget is spent, `memory`, where memory ran out, `until`, where the best plan found is as short as was asked for, `gap`, where no plan is shorter by more ticks than were asked for, `time`, where the seconds have passed, or `part`, where the leaves of a part are worked and others are open. No valid plan has a delay below LOW ticks. BEST is the delay of the best plan found, or `none`, and then no text follows.\n\nA search that is interrupted prints no plan, and its certificate's file is empty; with --keep its best plan so far is left. To go on after any stop, name the certificate behind --from and the plan behind --start, and write the next certificate to another file: only what is open is worked. --budget and --seconds are of one run.\n\nBefore the search a good plan is looked for, where more than 32 are left to choose: nodes to place, capacities, pairs of processes, and binary digits of rounds.",
     ),
 };
 
@@ -129,7 +130,7 @@ const VERIFY: &CommandRow = &CommandRow {
 const CHECK: &CommandRow = &CommandRow {
     name: "check",
     about: "Checks a certificate, and prints `bound` with the delay that no plan is below",
-    rows: &[INSTANCE, CERTIFICATE],
+    rows: &[INSTANCE, CERTIFICATE, LONG],
     after: None,
 };
 
@@ -147,7 +148,7 @@ const JOIN: &CommandRow = &CommandRow {
 const JUDGE: &CommandRow = &CommandRow {
     name: "judge",
     about: "Checks a plan and a certificate, and prints whether no plan is shorter",
-    rows: &[INSTANCE, ANY_PLAN, CERTIFICATE, FORMAT],
+    rows: &[INSTANCE, ANY_PLAN, CERTIFICATE, LONG, FORMAT],
     after: Some(
         "It prints one of these, and ends with the status beside it:\n   0  `least D`: the plan is valid and takes D ticks, and no valid plan has a smaller delay\n  10  `none`: no plan is valid\n  11  `between LOW D`, or `between LOW none` where PLAN has no plan: no valid plan has a delay below LOW ticks, which is less than D or than all that the horizon allows\n\nPLAN is a plan's text, or `none`, or what a search printed that was stopped: its line `stopped`, and behind it the plan.",
     ),

@@ -64,12 +64,33 @@ pub struct Effort {
     pub progress: bool,
 }
 
+/// A part of the leaves of a certificate that are open.
+#[derive(Clone, Copy, Debug)]
+pub struct Part {
+    /// Of the leaves, numbered from 0, those with this number modulo the count.
+    pub number: u32,
+    /// How many parts there are, 1 to 1,000,000.
+    pub count: u32,
+}
+
+/// From which certificate a search goes on.
+#[derive(Clone, Copy, Debug)]
+pub struct Continued<'a> {
+    pub certificate: &'a str,
+    /// Which of its open leaves are worked; all where there is none.
+    pub part: Option<Part>,
+}
+
 /// How an instance is to be searched.
 #[derive(Clone, Copy, Debug)]
 pub struct Search<'a> {
     pub instance: &'a str,
     /// Where the plan stands with which it begins.
     pub start: Option<&'a str>,
+    /// From where it goes on, if it doesn't begin anew.
+    pub from: Option<Continued<'a>>,
+    /// Whether one thread works the subtree with the fewest branches above it, and no worker.
+    pub is_wide: bool,
     /// Where the certificate is written.
     pub certificate: Option<&'a str>,
     /// Where the best plan so far is kept.
@@ -179,6 +200,8 @@ pub enum Request<'a> {
     Check {
         instance: &'a str,
         certificate: &'a str,
+        /// Whether the certificate may be long.
+        is_long: bool,
     },
     /// Join the certificates of some files for the instance of another.
     Join(Joining<'a>),
@@ -187,6 +210,8 @@ pub enum Request<'a> {
         instance: &'a str,
         plan: &'a str,
         certificate: &'a str,
+        /// Whether the certificate may be long.
+        is_long: bool,
         form: AnswerForm,
     },
     /// Tell what is different of a second instance and its plan, each in a file, by the names of what is different.

@@ -7,7 +7,7 @@ use Rattle.certificate.specs.declared.fault.CertTextError.TheVariants as certifi
 use Rattle.tree_check.specs.declared.fault.CertFault.TheVariants as certificate
 use Rattle.command_streams.specs.declared.ending.SearchFault.TheVariants as search
 use Rattle.command_streams.specs.declared.ending.Fault.{Fault}
-use Rattle.command_streams.specs.declared.ending.Fault.TheVariants.{NoMark, LossForm, InstanceText, Memory, PlanText, Plan, StatedDelay, CertificateText, Certificate, TooFewNodes, WrongLoss, NoSuchProcess, NoSuchRunner, TooManySlots, LongSchedule, NoSuchNode, ShortPeriod, ShortTables, LongTables, Search, TooLong, Unread, Unwritten}
+use Rattle.command_streams.specs.declared.ending.Fault.TheVariants.{NoMark, LossForm, InstanceText, Memory, PlanText, Plan, StatedDelay, CertificateText, Certificate, DeepCertificate, TooFewNodes, WrongLoss, NoSuchProcess, NoSuchRunner, TooManySlots, LongSchedule, NoSuchNode, ShortPeriod, ShortTables, LongTables, Search, TooLong, Unread, Unwritten}
 use Rattle.command_streams.specs.declared.ending.End.{End}
 use Rattle.command_streams.specs.declared.ending.End.TheVariants.{Done, Different, Absent, Stopped, Refused, RefusedOf}
 
@@ -27,6 +27,7 @@ fault_status (CertificateText certificate_text.OutOfMemory) = 4
 fault_status (CertificateText (certificate_text.At line fault)) = 5
 fault_status (Certificate certificate.OutOfMemory) = 4
 fault_status (Certificate _) = 5
+fault_status (DeepCertificate line) = 5
 fault_status TooFewNodes = 5
 fault_status (TooManySlots count) = 5
 fault_status (LongSchedule count) = 5

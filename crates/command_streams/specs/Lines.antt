@@ -35,7 +35,7 @@ use Rattle.command_streams.specs.declared.ending.Sink.TheVariants as sink
 use Rattle.command_streams.specs.declared.ending.SearchFault.{SearchFault}
 use Rattle.command_streams.specs.declared.ending.SearchFault.TheVariants as search
 use Rattle.command_streams.specs.declared.ending.Fault.{Fault}
-use Rattle.command_streams.specs.declared.ending.Fault.TheVariants.{NoMark, LossForm, InstanceText, Memory, PlanText, Plan, StatedDelay, CertificateText, Certificate, TooFewNodes, WrongLoss, NoSuchProcess, NoSuchRunner, TooManySlots, LongSchedule, NoSuchNode, ShortPeriod, ShortTables, LongTables, Search, TooLong, Unread, Unwritten}
+use Rattle.command_streams.specs.declared.ending.Fault.TheVariants.{NoMark, LossForm, InstanceText, Memory, PlanText, Plan, StatedDelay, CertificateText, Certificate, DeepCertificate, TooFewNodes, WrongLoss, NoSuchProcess, NoSuchRunner, TooManySlots, LongSchedule, NoSuchNode, ShortPeriod, ShortTables, LongTables, Search, TooLong, Unread, Unwritten}
 use Rattle.command_streams.specs.declared.ending.End.{End}
 use Rattle.command_streams.specs.declared.ending.End.TheVariants.{Done, Different, Absent, Stopped, Refused, RefusedOf}
 use Rattle.command_streams.specs.declared.ending.Release.{Release}
@@ -199,6 +199,7 @@ fault_line (Plan fault) = plan_line fault
 fault_line (StatedDelay delay) = codes "plan D1 " ++ decimal delay
 fault_line (CertificateText error) = certificate_text_line error
 fault_line (Certificate fault) = certificate_line fault
+fault_line (DeepCertificate line) = codes "certificate deep " ++ decimal line
 fault_line TooFewNodes = codes "replay N1"
 fault_line (TooManySlots count) = codes "draw slots " ++ decimal count
 fault_line (LongSchedule count) = codes "schedule slots " ++ decimal count

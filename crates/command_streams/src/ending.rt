@@ -74,6 +74,8 @@ pub enum Fault {
     CertificateText(CertTextError),
     /// When the certificate does not prove its bound.
     Certificate(CertFault),
+    /// When a search that goes on from the certificate could come too deep below the branch on this line of its text.
+    DeepCertificate(u64),
     /// When there are fewer nodes than a replay needs: three.
     TooFewNodes,
     /// When the loss word of this index stands for a loss that is outside the cycle, or at a node that isn't
@@ -166,6 +168,7 @@ pub fn status_of_fault(fault: &Fault) -> u8
         Fault::CertificateText(CertTextError::At { .. }) => 5,
         Fault::Certificate(CertFault::OutOfMemory) => 4,
         Fault::Certificate(_) => 5,
+        Fault::DeepCertificate(_) => 5,
         Fault::TooFewNodes => 5,
         Fault::WrongLoss(_) => 5,
         Fault::NoSuchProcess(_) => 5,

@@ -1,6 +1,6 @@
 //! What is taken from a reader, up to a limit, and the instance that it states.
 
-ghost use Rattle.std.specs.Prelude.{◌≡◌, ◌+◌, ◌<◌, ◌≤◌, ◌^◌, length, IfErr, IfOk, IfSome, MatchResult};
+ghost use Rattle.std.specs.Prelude.{◌≡◌, ◌+◌, ◌≤◌, ◌^◌, length, IfErr, IfOk, IfSome, MatchResult};
 ghost use Rattle.std.specs.Io.KnownBytes.{Consumes};
 ghost use Rattle.ttp_model.specs.Instance.{Instance};
 ghost use Rattle.command_streams.specs.Endings.{IsNotOfTexts};
@@ -33,7 +33,7 @@ pub struct Taken {
 
 /// Takes what the reader gives, up to `limit` bytes and one more, in at most one read a byte.
 pub fn take_input<R: Read>(alloc: Global, reader: &mut R, limit: usize) -> Result<Taken, AllocError>
-    requires { limit < 2 ^ 40 }
+    requires { limit ≤ 2 ^ 40 }
     ensures taken { IfOk result (λ taken. IfSome (R.remaining reader.old) (IsTaken limit taken)) }
     ensures within { IfOk result (λ taken. taken.stop ≡ Stop.AtEnd → length taken.bytes.items ≤ limit) }
     ensures left { IfOk result (λ taken. Consumes (R.remaining reader.old) (R.remaining reader.new) taken.bytes.items) }
@@ -68,7 +68,7 @@ pub fn read_all<R: Read>(
     limit: usize,
     source: Source,
 ) -> Result<Vec<u8>, Fault>
-    requires { limit < 2 ^ 40 }
+    requires { limit ≤ 2 ^ 40 }
     ensures read { IfOk result (λ read. IfSome (R.remaining reader.old) (λ bytes. read.items ≡ bytes)) }
     ensures within { IfOk result (λ read. length read.items ≤ limit) }
     ensures err { IfErr result (IsReadFault source limit (R.remaining reader.old)) }

@@ -8,3 +8,6 @@ pub const PLAN_LIMIT: usize = 131_072;
 
 /// Of a certificate's.
 pub const CERTIFICATE_LIMIT: usize = certificate::MOST_TEXT_BYTES;
+
+/// Of a certificate's from which a search goes on, or that is joined with others: it grows with each step of a long search.
+pub const LONG_CERTIFICATE_LIMIT: usize = 1_099_511_627_776;

@@ -340,6 +340,7 @@ impl fmt::Display for Fault {
             Fault::StatedDelay(delay) => write!(f, "plan D1 {delay}"),
             Fault::CertificateText(error) => write!(f, "{}", CertificateTextLine(*error)),
             Fault::Certificate(fault) => write!(f, "{}", CertificateLine(*fault)),
+            Fault::DeepCertificate(line) => write!(f, "certificate deep {line}"),
             Fault::TooFewNodes => write!(f, "replay N1"),
             Fault::WrongLoss(k) => write!(f, "replay N2 {k}"),
             Fault::NoSuchProcess(k) => write!(f, "limit name {k}"),

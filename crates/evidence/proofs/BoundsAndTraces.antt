@@ -9,8 +9,8 @@ use Rattle.plan_commands.specs.Traces.{IsReplayAnswer}
 use Rattle.evidence.specs.Tellings.{HasWrongLoss, TellsItsBound, TracesLosses}
 use Rattle.evidence.proofs.PlansTold.{plan_of}
 
-pub its_bound : (instance bytes : List ℕ) (old new : Option (List ℕ)) (end : End) → IsCheckAnswer instance bytes old new end → end ≡ Done → IsWritten (TellsItsBound instance bytes) old new
-its_bound instance bytes old new end answer done = let told = subst (λ e. IsCheckAnswer instance bytes old new e) done answer in record {
+pub its_bound : (limit : ℕ) (instance bytes : List ℕ) (old new : Option (List ℕ)) (end : End) → IsCheckAnswer limit instance bytes old new end → end ≡ Done → IsWritten (TellsItsBound instance bytes) old new
+its_bound limit instance bytes old new end answer done = let told = subst (λ e. IsCheckAnswer limit instance bytes old new e) done answer in record {
   text = told.text;
   is = record {
     problem = told.is.problem;

@@ -41,7 +41,7 @@ pub use events::{
 };
 pub use held::{no_more_leaves_wait_than_may, proved_branch_leaves_no_plan};
 pub use judgements::{bounds_are_told_in_order, delay_told_is_the_least, none_is_told_of_no_plan};
-pub use limits::limits_of_texts;
+pub use limits::{limits_of_texts, workers_asked_for_search};
 pub use names::{child_is_told_behind_its_parent, linked_processes_are_no_twins};
 pub use plans::{
     printed_text_spells_the_plan, settled_frames_are_not_turned, settled_frames_fit,
@@ -56,8 +56,9 @@ pub use questions::{
     none_has_more_than_the_margin, none_is_less_late, unknown_lateness_is_a_tick_at_least,
 };
 pub use searches::{
-    answer_is_no_later_than_the_start, found_plan_is_settled, leaf_of_a_find_is_below_the_goal,
-    least_is_told_of_a_least_delay, task_left_is_closed_at_the_path_bound,
+    answer_is_no_later_than_the_start, bound_is_no_lower_than_before, found_plan_is_settled,
+    leaf_of_a_find_is_below_the_goal, least_is_told_of_a_least_delay,
+    task_left_is_closed_at_the_path_bound,
 };
 pub use smaller_trees::{
     bound_is_the_one_asked_for, branches_are_few_enough, tree_that_is_given_is_a_proof,

@@ -10,6 +10,7 @@ use Rattle.certificate_reasons.specs.Certs.{IsCertReason}
 use Rattle.certificate_reasons.specs.Proofs.{IsProofReason}
 use Rattle.certificate_reasons.specs.Texts.{IsTextReason}
 use Rattle.sentences.specs.Shown.{Gains, IsShown}
+use Rattle.command_streams.specs.declared.limits.TheConstants.{CERTIFICATE_LIMIT}
 use Rattle.plan_commands.specs.Certified.{HasBound, IsCertificateFault, bound_line}
 use Rattle.command_streams.specs.Endings.{fault_status}
 use Rattle.command_streams.specs.declared.limits.TheConstants.{CERTIFICATE_LIMIT}
@@ -23,7 +24,7 @@ use Rattle.explain_command.specs.Telling.{line_of}
 pub record TellsUnwritten (i : Instance) (bytes text : List ℕ) : Type 0 where
   pub line : ℕ
   pub wrong : LineFault
-  pub first : IsCertificateFault i bytes (fault.CertificateText (At line wrong))
+  pub first : IsCertificateFault CERTIFICATE_LIMIT i bytes (fault.CertificateText (At line wrong))
   pub reason : TextReason
   pub is : IsTextReason bytes line wrong reason
   pub told : Gains IsShown (line_of (fault.CertificateText (At line wrong))) text
@@ -31,7 +32,7 @@ pub record TellsUnwritten (i : Instance) (bytes text : List ℕ) : Type 0 where
 -- a certificate that doesn't prove its bound, which is no want of memory: the line of its first fault, and sentences on the reason
 pub record TellsUnproved (i : Instance) (bytes text : List ℕ) : Type 0 where
   pub wrong : CertFault
-  pub first : IsCertificateFault i bytes (fault.Certificate wrong)
+  pub first : IsCertificateFault CERTIFICATE_LIMIT i bytes (fault.Certificate wrong)
   pub status : fault_status (fault.Certificate wrong) ≡ 5
   pub reason : CertReason
   pub is : IsCertReason i bytes wrong reason
@@ -40,7 +41,7 @@ pub record TellsUnproved (i : Instance) (bytes text : List ℕ) : Type 0 where
 -- one that does: its steps where it is one leaf, and else how large it is
 pub record TellsProved (i : Instance) (bytes text : List ℕ) : Type 0 where
   pub low : ℕ
-  pub bound : HasBound i bytes low
+  pub bound : HasBound CERTIFICATE_LIMIT i bytes low
   pub reason : ProofReason
   pub is : IsProofReason i bytes reason
   pub told : Gains IsShown (bound_line low) text

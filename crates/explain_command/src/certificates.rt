@@ -3,6 +3,7 @@
 ghost use Rattle.std.specs.Prelude.{◌≡◌, ◌≢◌, ◌++◌, IfErr, IfOk, OnOk, string_bytes};
 ghost use Rattle.certificate.specs.declared.fault.CertTextError.TheVariants as text;
 ghost use Rattle.command_streams.specs.declared.ending.Fault.TheVariants as fault;
+ghost use Rattle.command_streams.specs.declared.limits.TheConstants.{CERTIFICATE_LIMIT};
 ghost use Rattle.plan_commands.specs.Certified.{HasBound, IsCertificateFault, bound_line};
 ghost use Rattle.tree_check.specs.declared.fault.CertFault.TheVariants as cert;
 ghost use Rattle.explain_command.specs.Certificates.{IsUnreadable, TellsCertificateBytes, TellsProved, TellsUnproved, TellsUnwritten};
@@ -29,7 +30,7 @@ fn told_unwritten(
     wrong: LineFault,
     reasons: &mut Reasons,
 ) -> Result<String, MemoryFault>
-    requires { IsCertificateFault instance.now bytes.now (fault.CertificateText (text.At line wrong)) }
+    requires { IsCertificateFault CERTIFICATE_LIMIT instance.now bytes.now (fault.CertificateText (text.At line wrong)) }
     ensures { IfOk result (λ text. TellsUnwritten instance.now bytes.now (string_bytes text)) }
 {
     let reason = text_reason(bytes, line, wrong);
@@ -50,7 +51,7 @@ fn told_unproved(
     wrong: CertFault,
     reasons: &mut Reasons,
 ) -> Result<String, MemoryFault>
-    requires fault { IsCertificateFault instance.now bytes.now (fault.Certificate wrong) }
+    requires fault { IsCertificateFault CERTIFICATE_LIMIT instance.now bytes.now (fault.Certificate wrong) }
     requires told { wrong ≢ cert.OutOfMemory }
     ensures { IfOk result (λ text. TellsUnproved instance.now bytes.now (string_bytes text)) }
 {
@@ -77,7 +78,7 @@ fn told_proved(
     low: u32,
     reasons: &mut Reasons,
 ) -> Result<String, MemoryFault>
-    requires { HasBound instance.now bytes.now low }
+    requires { HasBound CERTIFICATE_LIMIT instance.now bytes.now low }
     ensures { IfOk result (λ text. TellsProved instance.now bytes.now (string_bytes text)) }
 {
     let reason = proof_reason(alloc, instance, bytes)?;
@@ -96,7 +97,7 @@ fn told_refused(
     wrong: Fault,
     reasons: &mut Reasons,
 ) -> Result<String, Fault>
-    requires { IsCertificateFault instance.now bytes.now wrong }
+    requires { IsCertificateFault CERTIFICATE_LIMIT instance.now bytes.now wrong }
     ensures told { IfOk result (λ text. TellsCertificateBytes instance.now bytes.now (string_bytes text)) }
     ensures err { IfErr result (IsUnreadable bytes.now) }
 {

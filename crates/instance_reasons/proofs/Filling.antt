@@ -1,5 +1,5 @@
 -- Lists of names that are filled one after another, and keys that stand in a table.
-use Rattle.std.proofs.Common.{◌≡◌, ◌∙◌, ℕ, ◌+◌, ◌<◌, ◌≤◌, List, [], ◌∷◌, ◌++◌, length, get_or, take, map, Option, None, Some, if◌then◌else◌, is_some, String, Global, string_bytes, Bor, refl, sym, ap}
+use Rattle.std.proofs.Common.{◌≡◌, ◌∙◌, ℕ, ◌+◌, ◌<◌, ◌≤◌, List, [], ◌∷◌, ◌++◌, Bool, length, get_or, take, map, Option, None, Some, if◌then◌else◌, is_some, String, Global, string_bytes, Bor, refl, sym, ap}
 use Rattle.std.specs.HashMap.{HashMap, get_by}
 use Rattle.std.specs.Map.{keys_of}
 use Rattle.std.specs.Str.{bytes_eq}
@@ -8,8 +8,6 @@ use Rattle.std.proofs.lemmas.List.{map-append, take_all, take_more}
 use Rattle.toml.specs.Data.{Data}
 use Rattle.toml.specs.View.{members_view, view}
 use Rattle.toml.specs.declared.value.Value.{Value}
-use Rattle.instance_text.specs.declared.error.Key.{Key}
-use Rattle.instance_text.specs.Tables.{has_key}
 use Rattle.instance_text.proofs.IndexLaws.{HasFrom}
 use Rattle.instance_reasons.specs.Tables.{name_in}
 use Rattle.instance_reasons.specs.Unknown.{first_unknown, is_known}
@@ -34,13 +32,13 @@ known_there m names text found = ap is_some (found text ∙ sym (position_from-z
 -- ---- keys of a table
 
 -- the first of some keys that isn't known
-abbrev pub first_among : List Key → List (String Global) → Option (List ℕ)
-first_among keys [] = None
-first_among keys (k ∷ ks) = if has_key keys (string_bytes k) then first_among keys ks else Some (string_bytes k)
+abbrev pub first_among : (List ℕ → Bool) → List (String Global) → Option (List ℕ)
+first_among known [] = None
+first_among known (k ∷ ks) = if known (string_bytes k) then first_among known ks else Some (string_bytes k)
 
-pub first_of_members : (keys : List Key) (es : List (String Global × Value)) → first_unknown keys (members_view es) ≡ first_among keys (keys_of es)
-first_of_members keys [] = refl
-first_of_members keys (e ∷ es) = ap (λ x. if has_key keys (string_bytes e.0) then x else Some (string_bytes e.0)) (first_of_members keys es)
+pub first_of_members : (known : List ℕ → Bool) (es : List (String Global × Value)) → first_unknown known (members_view es) ≡ first_among known (keys_of es)
+first_of_members known [] = refl
+first_of_members known (e ∷ es) = ap (λ x. if known (string_bytes e.0) then x else Some (string_bytes e.0)) (first_of_members known es)
 
 -- ---- names in the code's values
 

@@ -3,7 +3,6 @@ use Rattle.std.proofs.Common.{◌≡◌, ◌∙◌, ℕ, suc, ◌≤◌, ◌⊎�
 use Rattle.std.specs.List.{AllByRecursion, find, fold}
 use Rattle.std.proofs.lemmas.Bool.{and_parts, cases_Bool, leb-true}
 use Rattle.toml.specs.Data.{Data, string, integer, float, boolean, datetime, array, table, Items, Members, no_members, member, as_array}
-use Rattle.instance_text.specs.declared.error.Key.{Key}
 use Rattle.instance_text.specs.declared.error.Place.{Place}
 use Rattle.instance_text.specs.declared.error.Place.TheVariants.{Top, Cluster, Node, Process, Link, Message}
 use Rattle.instance_text.specs.Kinds.{list_of}
@@ -27,19 +26,19 @@ wanted_read (Message m) = (refl, (refl, (refl, (refl, (refl, tt)))))
 
 -- ---- what is unknown
 
-odd_key : (keys : List Key) (ms : Members) (key : List ℕ) → first_unknown keys ms ≡ Some key → has_key keys key ≡ false
-odd_key keys no_members key e = cc
-odd_key keys (member text d ms) key e = elim (cases_Bool (has_key keys text)) [
-  | inl holds ↦ odd_key keys ms key (rw holds at e)
+odd_key : (known : List ℕ → Bool) (ms : Members) (key : List ℕ) → first_unknown known ms ≡ Some key → known key ≡ false
+odd_key known no_members key e = cc
+odd_key known (member text d ms) key e = elim (cases_Bool (known text)) [
+  | inl holds ↦ odd_key known ms key (rw holds at e)
   | inr fails ↦ let same : Some text ≡ Some key = rw fails at e in let is : text ≡ key = cc in rw (← is) fails
 ]
 
-odd_key_of : (keys : List Key) (found : Option Members) (key : List ℕ) → and_then found (first_unknown keys) ≡ Some key → has_key keys key ≡ false
-odd_key_of keys None key e = cc
-odd_key_of keys (Some ms) key e = odd_key keys ms key e
+odd_key_of : (known : List ℕ → Bool) (found : Option Members) (key : List ℕ) → and_then found (first_unknown known) ≡ Some key → known key ≡ false
+odd_key_of known None key e = cc
+odd_key_of known (Some ms) key e = odd_key known ms key e
 
 pub odd_key_unknown : (place : Place) (ms : Members) (key : List ℕ) → unknown_key place ms ≡ Some key → has_key (keys_at place) key ≡ false
-odd_key_unknown place ms key e = odd_key_of (keys_at place) (table_at place ms) key e
+odd_key_unknown place ms key e = odd_key_of (has_key (keys_at place)) (table_at place ms) key e
 
 module _ (known : List ℕ → Bool) where
   -- a text that was found isn't known

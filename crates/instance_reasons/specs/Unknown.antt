@@ -12,14 +12,14 @@ use Rattle.instance_text.specs.declared.error.Place.TheVariants.{Top, Cluster, N
 use Rattle.instance_text.specs.Tables.{has_key, keys_at}
 use Rattle.instance_reasons.specs.Tables.{and_then, of_items, table_at}
 
--- the first key of a table that isn't one of these: a table's keys stand in byte order
-abbrev pub first_unknown : List Key → Members → Option (List ℕ)
-first_unknown keys no_members = None
-first_unknown keys (member text d ms) = if has_key keys text then first_unknown keys ms else Some text
+-- the first key of a table that isn't known, where this says which are: a table's keys stand in byte order
+abbrev pub first_unknown : (List ℕ → Bool) → Members → Option (List ℕ)
+first_unknown known no_members = None
+first_unknown known (member text d ms) = if known text then first_unknown known ms else Some text
 
 -- that of the table at a place
 abbrev pub unknown_key : Place → Members → Option (List ℕ)
-unknown_key place ms = and_then (table_at place ms) (first_unknown (keys_at place))
+unknown_key place ms = and_then (table_at place ms) (first_unknown (has_key (keys_at place)))
 
 -- the list of the top table whose entries are named at a place: a process names its node, and all else processes
 abbrev pub list_named_at : Place → Key

@@ -2,6 +2,7 @@
 
 ghost use Rattle.std.specs.Prelude.{◌≡◌, option_map};
 ghost use Rattle.toml.specs.View.{table_view};
+ghost use Rattle.instance_text.specs.Tables.{has_key};
 ghost use Rattle.instance_reasons.specs.Unknown.{first_unknown, unknown_key};
 
 use crate::tables::table_at;
@@ -10,7 +11,7 @@ use toml::Table;
 
 /// The first key of a table, in byte order, that isn't one of these.
 fn first_unknown<'a>(table: &'a Table, keys: &[Key]) -> Option<&'a str>
-    ensures { option_map (λ s. s.now) result ≡ first_unknown keys.now (table_view table.now) }
+    ensures { option_map (λ s. s.now) result ≡ first_unknown (has_key keys.now) (table_view table.now) }
 {
     for text in table.keys() {
         if !has_key(keys, text.as_str()) {

@@ -44,7 +44,8 @@ pub use shared::SharedName;
 pub use spots::Spot;
 pub use tables::{name_of, table_at};
 pub use texts::{
-    MissingKey, OddKey, OddName, TextReason, UnfitNumber, WrongKind, near_of, text_reason,
+    MissingKey, OddKey, OddName, TextReason, UnfitNumber, WrongKind, found_at, name_of_none,
+    near_key, near_of, number_at, text_reason,
 };
 pub use times::{NoTime, ShortLead, ShortTrail};
 pub use values::{Found, Kind, Shape, found_of, unfit_of};

@@ -2,7 +2,7 @@
 
 ghost use Rattle.std.specs.Prelude.{◌≡◌, ◌<◌, IfOk, length, string_bytes};
 ghost use Rattle.ttp_model.specs.Lists.{FindsFailure, IsFirstFailure};
-ghost use Rattle.ttp_model.specs.Rules.{IsName, IsNamed, begins_name, continues_name};
+ghost use Rattle.ttp_model.specs.Rules.{IsName, IsNamed};
 ghost use Rattle.instance_text.specs.Views.{instance_of};
 ghost use Rattle.instance_reasons.specs.Malformed.{HasStanding, IsMalformedName, IsNameFault, mended_name, standing_at, stands_at};
 
@@ -15,7 +15,7 @@ use sentences::{Member, tell, write_members, write_members_and};
 use serde::{Described, Serialize, Serializer};
 use std::alloc::{AllocError, Global};
 use std::fmt;
-use ttp_model::{MOST_NAME_BYTES, Place};
+use ttp_model::{MOST_NAME_BYTES, Place, begins_name, continues_name};
 
 /// What is wrong with the bytes of a name.
 #[derive(Drop)]
@@ -93,18 +93,6 @@ fn wrong_byte(alloc: Global, name: &[u8], k: usize) -> Result<NameFault, AllocEr
         byte: name[k],
         instead,
     })
-}
-
-fn begins_name(byte: u8) -> bool
-    ensures { result ≡ begins_name byte }
-{
-    byte.is_ascii_alphabetic() || byte == b'_'
-}
-
-fn continues_name(byte: u8) -> bool
-    ensures { result ≡ continues_name byte }
-{
-    byte.is_ascii_alphanumeric() || byte == b'_'
 }
 
 /// Whether a byte may stand at a place of a name.

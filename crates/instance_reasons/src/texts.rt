@@ -1,12 +1,10 @@
 //! Why does the table of a text state no instance?
 
 ghost use Rattle.std.specs.Prelude.{◌≡◌, IfOk, map, option_map};
-ghost use Rattle.toml.specs.View.{table_view};
-ghost use Rattle.instance_text.specs.Keys.{text_of};
-ghost use Rattle.instance_text.specs.Tables.{keys_at};
+ghost use Rattle.toml.specs.View.{table_view, view};
 ghost use Rattle.instance_reasons.specs.Near.{nearest};
 ghost use Rattle.instance_reasons.specs.NearNames.{AreNear};
-ghost use Rattle.instance_reasons.specs.Tables.{and_then, value_at};
+ghost use Rattle.instance_reasons.specs.Tables.{and_then};
 ghost use Rattle.instance_reasons.specs.Texts.{IsOddKey, IsOddName, IsOfTable, IsTextReason, IsUnfitNumber, IsWrongKind};
 ghost use Rattle.instance_reasons.specs.Unknown.{is_known, unknown_name};
 ghost use Rattle.instance_reasons.specs.Values.{found_of, unfit_of};
@@ -24,7 +22,7 @@ use serde::{Described, Serialize, Serializer};
 use std::alloc::{AllocError, Global};
 use std::fmt;
 use std::fmt::Display;
-use toml::Table;
+use toml::{Table, Value};
 
 /// A key that can't stand where it does: of several the first in byte order.
 #[derive(Clone, Copy)]
@@ -41,7 +39,8 @@ fn odd_key<'a>(alloc: Global, table: &'a Table, place: Place) -> Result<OddKey<'
     ensures { IfOk result (IsOddKey (table_view table.now) place) }
 {
     let key = unknown_key(table, place);
-    let near = near_key(alloc, place, key)?;
+    let keys = key_names(alloc, keys_at(place))?;
+    let near = near_key(alloc, key, keys.as_slice())?;
     Ok(OddKey {
         spot: text_spot(table, place),
         key,
@@ -49,20 +48,19 @@ fn odd_key<'a>(alloc: Global, table: &'a Table, place: Place) -> Result<OddKey<'
     })
 }
 
-/// The key that is nearest to another one, of those that can stand at a place.
-fn near_key(
+/// Which of these keys is nearest to another one, where there is that.
+pub fn near_key<'a>(
     alloc: Global,
-    place: Place,
     key: Option<&str>,
-) -> Result<Option<&'static str>, AllocError>
+    keys: &[&'a str],
+) -> Result<Option<&'a str>, AllocError>
     ensures { IfOk result (λ near. option_map (λ s. s.now) near
-        ≡ and_then (option_map (λ s. s.now) key.entry) (λ word. nearest word (map text_of (keys_at place)))) }
+        ≡ and_then (option_map (λ s. s.now) key.entry) (λ word. nearest word (map (λ s. s.now) keys.now))) }
 {
-    let Some(word) = key else {
-        return Ok(None);
-    };
-    let names = key_names(alloc, keys_at(place))?;
-    nearest(alloc, word, names.as_slice())
+    match key {
+        None => Ok(None),
+        Some(word) => nearest(alloc, word, keys),
+    }
 }
 
 impl<'a> Described for OddKey<'a> {}
@@ -140,16 +138,16 @@ fn wrong_kind<'a>(table: &'a Table, place: Place, key: Key) -> WrongKind<'a>
     WrongKind {
         spot: text_spot(table, place),
         key: key.text(),
-        found: found_at(table, place, key, wanted),
+        found: found_at(value_at(table, place, key), wanted),
         wanted,
     }
 }
 
 /// What stands at a key in place of what has to.
-fn found_at(table: &Table, place: Place, key: Key, wanted: Shape) -> Option<Found>
-    ensures { result ≡ option_map (found_of wanted) (value_at place key (table_view table.now)) }
+pub fn found_at(value: Option<&Value>, wanted: Shape) -> Option<Found>
+    ensures { result ≡ option_map (found_of wanted) (option_map (λ v. view v.now) value.entry) }
 {
-    Some(found_of(wanted, value_at(table, place, key)?))
+    Some(found_of(wanted, value?))
 }
 
 impl<'a> Described for WrongKind<'a> {}
@@ -199,15 +197,15 @@ fn unfit_number<'a>(table: &'a Table, place: Place, key: Key) -> UnfitNumber<'a>
     UnfitNumber {
         spot: text_spot(table, place),
         key: key.text(),
-        number: number_at(table, place, key),
+        number: number_at(value_at(table, place, key)),
     }
 }
 
 /// The number at fault at a key.
-fn number_at(table: &Table, place: Place, key: Key) -> Option<i64>
-    ensures { result ≡ and_then (value_at place key (table_view table.now)) unfit_of }
+pub fn number_at(value: Option<&Value>) -> Option<i64>
+    ensures { result ≡ and_then (option_map (λ v. view v.now) value.entry) unfit_of }
 {
-    unfit_of(value_at(table, place, key)?)
+    unfit_of(value?)
 }
 
 impl<'a> Described for UnfitNumber<'a> {}
@@ -260,7 +258,7 @@ fn odd_name<'a>(
 {
     let list = list_named_at(place);
     let names = names_under(alloc, table, list)?;
-    let name = name_of_none(alloc, table, place, key, names.as_slice())?;
+    let name = name_of_none(alloc, value_at(table, place, key), names.as_slice())?;
     let near = near_of(alloc, name, names.as_slice())?;
     Ok(OddName {
         spot: text_spot(table, place),
@@ -286,17 +284,15 @@ pub fn near_of<'a>(
 }
 
 /// What is named at a key and isn't one of these names.
-fn name_of_none<'a>(
+pub fn name_of_none<'a>(
     alloc: Global,
-    table: &'a Table,
-    place: Place,
-    key: Key,
+    value: Option<&'a Value>,
     names: &[&str],
 ) -> Result<Option<&'a str>, AllocError>
     ensures { IfOk result (λ found. option_map (λ s. s.now) found
-        ≡ and_then (value_at place key (table_view table.now)) (unknown_name (is_known (map (λ s. s.now) names.now)))) }
+        ≡ and_then (option_map (λ v. view v.now) value.entry) (unknown_name (is_known (map (λ s. s.now) names.now)))) }
 {
-    let Some(value) = value_at(table, place, key) else {
+    let Some(value) = value else {
         return Ok(None);
     };
     let known = Known::of(alloc, names)?;

@@ -3,7 +3,7 @@ use Rattle.std.specs.Prelude.{ℕ, ◌<◌, ◌≤◌, List, [], ◌∷◌, leng
 use Rattle.certificate.specs.Cert.{Cert}
 use Rattle.certificate.specs.Spelling.{SpellsCert}
 use Rattle.certificate.specs.Reading.{HasLow, IsFaultIn, Reads}
-use Rattle.command_streams.specs.declared.limits.TheConstants.{CERTIFICATE_LIMIT}
+use Rattle.command_streams.specs.declared.limits.TheConstants.{LONG_CERTIFICATE_LIMIT}
 use Rattle.command_streams.specs.declared.ending.Source.TheVariants as source
 use Rattle.command_streams.specs.declared.ending.Fault.{Fault}
 use Rattle.command_streams.specs.declared.ending.Fault.TheVariants.{CertificateText, Memory, TooLong, Unread}
@@ -13,7 +13,7 @@ use Rattle.join_command.specs.declared.ending.JoinEnd.TheVariants.{Ended, Refuse
 
 -- bytes are within their limit, and spell this certificate
 pub record SpellsWithin (bytes : List ℕ) (cert : Cert) : Type 0 where
-  pub within : length bytes ≤ CERTIFICATE_LIMIT
+  pub within : length bytes ≤ LONG_CERTIFICATE_LIMIT
   pub spelled : SpellsCert bytes cert
 
 -- texts spell certificates, each its own
@@ -27,8 +27,8 @@ AreCertificates (text ∷ texts) (cert ∷ certs) = SpellsWithin text cert × Ar
 abbrev pub IsUnreadText : List ℕ → Fault → Type 0
 IsUnreadText bytes Memory = Unit {0}
 IsUnreadText bytes (Unread source.Certificate) = Unit {0}
-IsUnreadText bytes (TooLong source.Certificate) = CERTIFICATE_LIMIT < length bytes
-IsUnreadText bytes (CertificateText error) = (length bytes ≤ CERTIFICATE_LIMIT) × IsFaultIn (HasLow bytes) error (Reads bytes)
+IsUnreadText bytes (TooLong source.Certificate) = LONG_CERTIFICATE_LIMIT < length bytes
+IsUnreadText bytes (CertificateText error) = (length bytes ≤ LONG_CERTIFICATE_LIMIT) × IsFaultIn (HasLow bytes) error (Reads bytes)
 IsUnreadText bytes _ = ⊥
 
 -- the end at a fault of the certificate of this number: want of memory is of none

@@ -2,17 +2,17 @@
 
 ghost use Rattle.std.specs.Prelude.{◌≡◌, ◌<◌, ◌≤◌, ℕ, IfOk, IfSome, MatchResult, List, Some, length, map};
 ghost use Rattle.join_command.specs.Given.{AreCertificates, IsUnread, IsUnreadText, SpellsWithin, end_at};
-ghost use Rattle.command_streams.specs.declared.limits.TheConstants.{CERTIFICATE_LIMIT};
+ghost use Rattle.command_streams.specs.declared.limits.TheConstants.{LONG_CERTIFICATE_LIMIT};
 
 use crate::ending::JoinEnd;
 use certificate::{Cert, CertTextError};
-use command_streams::{CERTIFICATE_LIMIT, End, Fault, Source, read_all};
+use command_streams::{End, Fault, LONG_CERTIFICATE_LIMIT, Source, read_all};
 use std::alloc::Global;
 use std::io::Read;
 
 /// The certificate that bytes spell.
 fn cert_of_text(alloc: Global, bytes: &[u8]) -> Result<Cert, Fault>
-    requires { length bytes.now ≤ CERTIFICATE_LIMIT }
+    requires { length bytes.now ≤ LONG_CERTIFICATE_LIMIT }
     ensures { MatchResult result (SpellsWithin bytes.now) (IsUnreadText bytes.now) }
 {
     match certificate::read(alloc, bytes) {
@@ -26,7 +26,7 @@ fn cert_of_text(alloc: Global, bytes: &[u8]) -> Result<Cert, Fault>
 fn read_cert<R: Read>(alloc: Global, reader: &mut R) -> Result<Cert, Fault>
     ensures { IfSome (R.remaining reader.old) (λ bytes. MatchResult result (SpellsWithin bytes) (IsUnreadText bytes)) }
 {
-    let bytes = read_all(alloc, reader, CERTIFICATE_LIMIT, Source::Certificate)?;
+    let bytes = read_all(alloc, reader, LONG_CERTIFICATE_LIMIT, Source::Certificate)?;
     cert_of_text(alloc, bytes.as_slice())
 }
 

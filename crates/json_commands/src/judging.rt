@@ -1,8 +1,9 @@
 //! What do `verify`, `judge` and `compare` say as an object?
 
 ghost use Rattle.std.specs.Prelude.{◌+◌, IfSome};
-ghost use Rattle.command_streams.specs.declared.limits.TheConstants.{CERTIFICATE_LIMIT, INSTANCE_LIMIT, PLAN_LIMIT};
+ghost use Rattle.command_streams.specs.declared.limits.TheConstants.{INSTANCE_LIMIT, PLAN_LIMIT};
 ghost use Rattle.command_streams.specs.Streams.{TakesAtMost};
+ghost use Rattle.plan_commands.specs.Certified.{certificate_limit};
 ghost use Rattle.plan_commands.specs.Comparisons.{IsCompareAnswer};
 ghost use Rattle.plan_commands.specs.Judged.{IsJudgeAnswer};
 ghost use Rattle.plan_commands.specs.Printed.{printed_limit};
@@ -44,19 +45,20 @@ pub fn verify_json<I: Read, P: Read, W: Write>(
 pub fn judge_json<I: Read, P: Read, C: Read, W: Write>(
     rt: &(impl Threads + Sync),
     alloc: Global,
+    is_long: bool,
     instance: &mut I,
     plan: &mut P,
     certificate: &mut C,
     out: &mut W,
 ) -> End
     ensures answer { IfSome (I.remaining instance.old) (λ i. IfSome (P.remaining plan.old) (λ p. IfSome (C.remaining certificate.old) (λ c.
-        IsToldAsJson (IsJudgeAnswer i p c) (W.contents out.old) (W.contents out.new) result))) }
+        IsToldAsJson (IsJudgeAnswer (certificate_limit is_long) i p c) (W.contents out.old) (W.contents out.new) result))) }
     ensures instance { TakesAtMost (INSTANCE_LIMIT + 1) (I.remaining instance.old) (I.remaining instance.new) }
     ensures plan { TakesAtMost (printed_limit + 1) (P.remaining plan.old) (P.remaining plan.new) }
-    ensures certificate { TakesAtMost (CERTIFICATE_LIMIT + 1) (C.remaining certificate.old) (C.remaining certificate.new) }
+    ensures certificate { TakesAtMost (certificate_limit is_long + 1) (C.remaining certificate.old) (C.remaining certificate.new) }
 {
     let mut text = Vec::new(alloc);
-    let end = judge_run(rt, alloc, instance, plan, certificate, &mut text);
+    let end = judge_run(rt, alloc, is_long, instance, plan, certificate, &mut text);
     tell(
         alloc,
         &JUDGE,

@@ -280,10 +280,10 @@ fn end_of<W: Write>(
         Command::Rounds => rounds_of(alloc, case, words, out),
         Command::Period => period_of(alloc, case, words, out),
         Command::Replay => replay_run(alloc, &mut first, &mut second, words, out),
-        Command::Check => check_run(rt, alloc, &mut first, &mut second, out),
+        Command::Check => check_run(rt, alloc, false, &mut first, &mut second, out),
         Command::Judge => {
             let mut third = case.third.as_slice();
-            judge_run(rt, alloc, &mut first, &mut second, &mut third, out)
+            judge_run(rt, alloc, false, &mut first, &mut second, &mut third, out)
         }
         Command::Schedule => { schedule_run(alloc, &mut first, &mut second, table_of(words), out) }
         Command::Draw => draw_run(

@@ -5,7 +5,7 @@ ghost use Rattle.plan_changes.specs.Dispatch.{dispatch_line, dispatch_lines, nam
 
 use crate::planned::Planned;
 use line_text::{push_number_word, push_word};
-use plan_sheets::order_of;
+use plan_sheets::{must_end_by, order_of};
 use std::alloc::{AllocError, Global};
 use ttp_model::{MemoryFault, end_of};
 
@@ -37,7 +37,7 @@ fn push_dispatch(text: &mut Vec<u8>, planned: &Planned, p: usize) -> Result<(), 
     let plan = planned.plan();
     let process = instance.process_at(p);
     let node = instance.nodes()[process.node as usize].name.as_bytes();
-    let deadline = process.deadline.min(instance.cluster().horizon);
+    let deadline = must_end_by(instance, p);
     push_names(text, node, process.name.as_bytes())?;
     push_ticks(
         text,

@@ -28,14 +28,16 @@ why_lacks_space word (inl budget) = subst (Lacks 32) (sym budget) (Lacks-from_te
 why_lacks_space word (inr (inl memory)) = subst (Lacks 32) (sym memory) (Lacks-from_test 32 (codes "memory") refl)
 why_lacks_space word (inr (inr (inl enough))) = subst (Lacks 32) (sym enough) (Lacks-from_test 32 (codes "until") refl)
 why_lacks_space word (inr (inr (inr (inl over)))) = subst (Lacks 32) (sym over) (Lacks-from_test 32 (codes "time") refl)
-why_lacks_space word (inr (inr (inr (inr near)))) = subst (Lacks 32) (sym near) (Lacks-from_test 32 (codes "gap") refl)
+why_lacks_space word (inr (inr (inr (inr (inl near))))) = subst (Lacks 32) (sym near) (Lacks-from_test 32 (codes "gap") refl)
+why_lacks_space word (inr (inr (inr (inr (inr own))))) = subst (Lacks 32) (sym own) (Lacks-from_test 32 (codes "part") refl)
 
 why_lacks_end : (word : List ℕ) → IsWhyWord word → Lacks 10 word
 why_lacks_end word (inl budget) = subst (Lacks 10) (sym budget) (Lacks-from_test 10 (codes "budget") refl)
 why_lacks_end word (inr (inl memory)) = subst (Lacks 10) (sym memory) (Lacks-from_test 10 (codes "memory") refl)
 why_lacks_end word (inr (inr (inl enough))) = subst (Lacks 10) (sym enough) (Lacks-from_test 10 (codes "until") refl)
 why_lacks_end word (inr (inr (inr (inl over)))) = subst (Lacks 10) (sym over) (Lacks-from_test 10 (codes "time") refl)
-why_lacks_end word (inr (inr (inr (inr near)))) = subst (Lacks 10) (sym near) (Lacks-from_test 10 (codes "gap") refl)
+why_lacks_end word (inr (inr (inr (inr (inl near))))) = subst (Lacks 10) (sym near) (Lacks-from_test 10 (codes "gap") refl)
+why_lacks_end word (inr (inr (inr (inr (inr own))))) = subst (Lacks 10) (sym own) (Lacks-from_test 10 (codes "part") refl)
 
 number_lacks : (byte : ℕ) (word : List ℕ) → byte < 48 → IsNumber word → Lacks byte word
 number_lacks byte word below is = subst (Lacks byte) (sym is.1) (decimal_lacks byte is.0 below (omega (arith, is.2)))
@@ -362,7 +364,8 @@ why_length word (inl budget) = omega (arith, ap length budget)
 why_length word (inr (inl memory)) = omega (arith, ap length memory)
 why_length word (inr (inr (inl enough))) = omega (arith, ap length enough)
 why_length word (inr (inr (inr (inl over)))) = omega (arith, ap length over)
-why_length word (inr (inr (inr (inr near)))) = omega (arith, ap length near)
+why_length word (inr (inr (inr (inr (inl near))))) = omega (arith, ap length near)
+why_length word (inr (inr (inr (inr (inr own))))) = omega (arith, ap length own)
 
 number_length : (word : List ℕ) → IsNumber word → length word ≤ 10
 number_length word is =

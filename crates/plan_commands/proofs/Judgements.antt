@@ -38,8 +38,8 @@ reached i plan best stands = plan_behind i stands.begun stands.rest best stands.
 
 -- ---- what is said
 
-module _ (instance plan certificate : List ℕ) where
-  pub least_said : (d : ℕ) → IsJudged instance plan certificate (Least d) → (i : Instance) × HasInstance instance i × IsLeastDelay i d
+module _ (limit : ℕ) (instance plan certificate : List ℕ) where
+  pub least_said : (d : ℕ) → IsJudged limit instance plan certificate (Least d) → (i : Instance) × HasInstance instance i × IsLeastDelay i d
   least_said d judged =
       let is : IsReached judged.problem (Some d) = subst (IsReached judged.problem) judged.is.0 (reached judged.problem plan judged.best judged.stands) in (
         judged.problem,
@@ -52,12 +52,12 @@ module _ (instance plan certificate : List ℕ) where
         },
       )
 
-  pub none_said : IsJudged instance plan certificate NoPlan → (i : Instance) × HasInstance instance i × HasNoPlan i
+  pub none_said : IsJudged limit instance plan certificate NoPlan → (i : Instance) × HasInstance instance i × HasNoPlan i
   none_said judged =
       let past : IsLowerBound judged.problem (judged.problem.cluster.horizon + 1) = subst (IsLowerBound judged.problem) judged.is.1 judged.has_bound.bound in
       (judged.problem, judged.has_instance, bound_is_none judged.problem judged.has_instance.instance past)
 
-  pub between_said : (low : ℕ) (best : Option ℕ) → IsJudged instance plan certificate (Between low best)
+  pub between_said : (low : ℕ) (best : Option ℕ) → IsJudged limit instance plan certificate (Between low best)
       → (i : Instance) × HasInstance instance i × IsLowerBound i low × (low < limit_of i best) × IsReached i best
   between_said low best judged =
       let i = judged.problem in
@@ -102,8 +102,8 @@ place_once i plan a b w first second =
     let same = begins_once plan first.begun second.begun first.rest second.rest first.begins second.begins in
     behind_once i second.begun second.rest a b w (rw (← same.0, ← same.1) first.stands) second.stands
 
-bound_once : (i : Instance) (certificate : List ℕ) (a b : ℕ) → HasBound i certificate a → HasBound i certificate b → a ≡ b
-bound_once i certificate a b first second =
+bound_once : (limit : ℕ) (i : Instance) (certificate : List ℕ) (a b : ℕ) → HasBound limit i certificate a → HasBound limit i certificate b → a ≡ b
+bound_once limit i certificate a b first second =
     let c = first.has_certificate.spelled in
     let d = second.has_certificate.spelled in
     let same = certificate_text.spelled_once first.cert second.cert c.value d.value (sym c.spelled ∙ d.spelled) in
@@ -137,30 +137,30 @@ judgement_once i best low (Between told given) NoPlan first second =
     absurd (let below : low < limit_of i None = rw second.0 at first.1.1 in omega (arith, below, second.1))
 judgement_once i best low (Between told given) (Between other last) first second = rw (first.0, first.1.0, second.0, second.1.0) refl
 
-pub judged_of_texts : (instance plan certificate : List ℕ) (i : Instance) (best : Option ℕ) (low : ℕ) → HasInstance instance i
-    → StandsFor i plan best → HasBound i certificate low
-    → (judgement : Judgement) × IsJudged instance plan certificate judgement
-judged_of_texts instance plan certificate i best low has stands bound =
-    let found = judgement_of i best low (bound_below i plan certificate best low stands bound) in
+pub judged_of_texts : (limit : ℕ) (instance plan certificate : List ℕ) (i : Instance) (best : Option ℕ) (low : ℕ) → HasInstance instance i
+    → StandsFor i plan best → HasBound limit i certificate low
+    → (judgement : Judgement) × IsJudged limit instance plan certificate judgement
+judged_of_texts limit instance plan certificate i best low has stands bound =
+    let found = judgement_of i best low (bound_below limit i plan certificate best low stands bound) in
     (found.0, record { problem = i; has_instance = has; best = best; stands = stands; low = low; has_bound = bound; is = found.1 })
 
-pub by_what_they_say : (instance plan certificate : List ℕ) (i : Instance) (best : Option ℕ) (low : ℕ) (judgement : Judgement)
-    → HasInstance instance i → StandsFor i plan best → HasBound i certificate low
-    → IsJudged instance plan certificate judgement ↔ IsJudgementOf i best low judgement
-by_what_they_say instance plan certificate i best low judgement has stands bound = (
+pub by_what_they_say : (limit : ℕ) (instance plan certificate : List ℕ) (i : Instance) (best : Option ℕ) (low : ℕ) (judgement : Judgement)
+    → HasInstance instance i → StandsFor i plan best → HasBound limit i certificate low
+    → IsJudged limit instance plan certificate judgement ↔ IsJudgementOf i best low judgement
+by_what_they_say limit instance plan certificate i best low judgement has stands bound = (
   λ judged.
       let same_instance : judged.problem ≡ i = instance_once instance judged.problem i judged.has_instance has in
       let stands_so : StandsFor i plan judged.best = subst (λ (j : Instance). StandsFor j plan judged.best) same_instance judged.stands in
-      let bound_so : HasBound i certificate judged.low = subst (λ (j : Instance). HasBound j certificate judged.low) same_instance judged.has_bound in
+      let bound_so : HasBound limit i certificate judged.low = subst (λ (j : Instance). HasBound limit j certificate judged.low) same_instance judged.has_bound in
       let same_best : judged.best ≡ best = place_once i plan judged.best best has.instance stands_so stands in
-      let same_low : judged.low ≡ low = bound_once i certificate judged.low low bound_so bound in
+      let same_low : judged.low ≡ low = bound_once limit i certificate judged.low low bound_so bound in
       let said : IsJudgementOf i judged.best judged.low judgement = subst (λ (j : Instance). IsJudgementOf j judged.best judged.low judgement)
       same_instance judged.is in
       subst (λ (n : ℕ). IsJudgementOf i best n judgement) same_low (subst (λ (o : Option ℕ). IsJudgementOf i o judged.low judgement) same_best said),
   λ is. record { problem = i; has_instance = has; best = best; stands = stands; low = low; has_bound = bound; is = is },
 )
 
-pub judged_once : (instance plan certificate : List ℕ) (a b : Judgement) → IsJudged instance plan certificate a → IsJudged instance plan certificate b → a ≡ b
-judged_once instance plan certificate a b first second =
+pub judged_once : (limit : ℕ) (instance plan certificate : List ℕ) (a b : Judgement) → IsJudged limit instance plan certificate a → IsJudged limit instance plan certificate b → a ≡ b
+judged_once limit instance plan certificate a b first second =
     judgement_once second.problem second.best second.low a b
-    ((by_what_they_say instance plan certificate second.problem second.best second.low a second.has_instance second.stands second.has_bound).0 first) second.is
+    ((by_what_they_say limit instance plan certificate second.problem second.best second.low a second.has_instance second.stands second.has_bound).0 first) second.is

@@ -33,7 +33,7 @@ spelled_by : (bytes : List ℕ) (cert : Cert) → BytesRead (Some bytes) (Ok cer
 spelled_by bytes cert read = subst (λ (t : List ℕ). SpellsCert t cert) (sym read.1.0) (takes read.0 cert read.1.1)
 
 pub bound_of_stream : (i : Instance) (known next : Option (List ℕ)) (low : ℕ) → IsStreamJudged i known (Ok low) → IsTakenFrom known next (Ok low)
-    → IsLowerBound i low → IfSome known (λ bytes. HasBound i bytes low)
+    → IsLowerBound i low → IfSome known (λ bytes. HasBound CERTIFICATE_LIMIT i bytes low)
 bound_of_stream i None next low judged taken bound = tt
 bound_of_stream i (Some bytes) next low judged taken bound = record {
   cert = judged.0;
@@ -47,7 +47,7 @@ bound_of_stream i (Some bytes) next low judged taken bound = record {
 }
 
 pub fault_of_stream : (i : Instance) (known next : Option (List ℕ)) (fault : StreamFault) → IsStreamJudged i known (Err fault)
-    → IsTakenFrom known next (Err fault) → IfSome known (λ bytes. IsCertificateFault i bytes (fault_of fault))
+    → IsTakenFrom known next (Err fault) → IfSome known (λ bytes. IsCertificateFault CERTIFICATE_LIMIT i bytes (fault_of fault))
 fault_of_stream i None next fault judged taken = tt
 fault_of_stream i (Some bytes) next Read judged taken = tt
 fault_of_stream i (Some bytes) next TooLong judged taken =

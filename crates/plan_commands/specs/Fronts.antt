@@ -10,7 +10,8 @@ IsNumber word = (n : ℕ) × (word ≡ decimal n) × (n < 2 ^ 32)
 -- the word says why a search stopped
 abbrev pub IsWhyWord : List ℕ → Type 0
 IsWhyWord word =
-    (word ≡ codes "budget") ⊎ ((word ≡ codes "memory") ⊎ ((word ≡ codes "until") ⊎ ((word ≡ codes "time") ⊎ (word ≡ codes "gap"))))
+    (word ≡ codes "budget") ⊎ ((word ≡ codes "memory") ⊎ ((word ≡ codes "until") ⊎ ((word ≡ codes "time")
+    ⊎ ((word ≡ codes "gap") ⊎ (word ≡ codes "part")))))
 
 -- the word for the best that is known: a number where a plan was found, or that none was
 abbrev pub IsBestWord : Front → List ℕ → Type 0

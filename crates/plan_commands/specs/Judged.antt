@@ -89,14 +89,14 @@ abbrev pub IsReached : Instance → Option ℕ → Type 0
 IsReached i None = Unit {0}
 IsReached i (Some d) = (plan : Table) × (IsValid i plan × (delay i plan ≡ d))
 
--- what is judged of the bytes of an instance, of what is given in a plan's place, and of a certificate
-pub record IsJudged (instance plan certificate : List ℕ) (judgement : Judgement) : Type 0 where
+-- what is judged of the bytes of an instance, of what is given in a plan's place, and of a certificate, of which so many are read
+pub record IsJudged (limit : ℕ) (instance plan certificate : List ℕ) (judgement : Judgement) : Type 0 where
   pub problem : Instance
   pub has_instance : HasInstance instance problem
   pub best : Option ℕ
   pub stands : StandsFor problem plan best
   pub low : ℕ
-  pub has_bound : HasBound problem certificate low
+  pub has_bound : HasBound limit problem certificate low
   pub is : IsJudgementOf problem best low judgement
 
 -- ---- how it is told
@@ -119,38 +119,38 @@ end_of NoPlan = Absent
 end_of (Between low best) = Stopped
 
 -- a text that tells what is judged, at the end at which it is told
-pub record IsToldAt (instance plan certificate : List ℕ) (end : End) (text : List ℕ) : Type 0 where
+pub record IsToldAt (limit : ℕ) (instance plan certificate : List ℕ) (end : End) (text : List ℕ) : Type 0 where
   pub judgement : Judgement
-  pub is : IsJudged instance plan certificate judgement
+  pub is : IsJudged limit instance plan certificate judgement
   pub ends : end ≡ end_of judgement
   pub text_is : text ≡ judgement_line judgement
 
 -- ---- why nothing is told
 
 -- the instance is stated, something stands in a plan's place, and the certificate's bytes are at this fault
-pub record IsUnbounded (instance plan certificate : List ℕ) (fault : Fault) : Type 0 where
+pub record IsUnbounded (limit : ℕ) (instance plan certificate : List ℕ) (fault : Fault) : Type 0 where
   pub problem : Instance
   pub has_instance : HasInstance instance problem
   pub best : Option ℕ
   pub stands : StandsFor problem plan best
-  pub refused : IsCertificateFault problem certificate fault
+  pub refused : IsCertificateFault limit problem certificate fault
 
 -- why the bytes of an instance and of what is given in a plan's place stand for nothing: for the instance, or else for the place
 abbrev pub HasNoStanding : List ℕ → List ℕ → Fault → Type 0
 HasNoStanding instance plan fault = IsRefusedAs IsRefusedPlace instance plan fault
 
 -- why nothing is judged: for those two, or else for the certificate
-abbrev pub IsUnjudged : List ℕ → List ℕ → List ℕ → Fault → Type 0
-IsUnjudged instance plan certificate (CertificateText error) = IsUnbounded instance plan certificate (CertificateText error)
-IsUnjudged instance plan certificate (Certificate fault) = IsUnbounded instance plan certificate (Certificate fault)
-IsUnjudged instance plan certificate (Unread source.Certificate) = IsUnbounded instance plan certificate (Unread source.Certificate)
-IsUnjudged instance plan certificate (TooLong source.Certificate) = IsUnbounded instance plan certificate (TooLong source.Certificate)
-IsUnjudged instance plan certificate fault = HasNoStanding instance plan fault
+abbrev pub IsUnjudged : (limit : ℕ) → List ℕ → List ℕ → List ℕ → Fault → Type 0
+IsUnjudged limit instance plan certificate (CertificateText error) = IsUnbounded limit instance plan certificate (CertificateText error)
+IsUnjudged limit instance plan certificate (Certificate fault) = IsUnbounded limit instance plan certificate (Certificate fault)
+IsUnjudged limit instance plan certificate (Unread source.Certificate) = IsUnbounded limit instance plan certificate (Unread source.Certificate)
+IsUnjudged limit instance plan certificate (TooLong source.Certificate) = IsUnbounded limit instance plan certificate (TooLong source.Certificate)
+IsUnjudged limit instance plan certificate fault = HasNoStanding instance plan fault
 
 -- what `judge` answers of the bytes of an instance, of a plan and of a certificate, and what it writes
-abbrev pub IsJudgeAnswer : List ℕ → List ℕ → List ℕ → Option (List ℕ) → Option (List ℕ) → End → Type 0
-IsJudgeAnswer instance plan certificate =
-    IsCommandAnswer (IsToldAt instance plan certificate) (IsUnjudged instance plan certificate)
+abbrev pub IsJudgeAnswer : (limit : ℕ) → List ℕ → List ℕ → List ℕ → Option (List ℕ) → Option (List ℕ) → End → Type 0
+IsJudgeAnswer limit instance plan certificate =
+    IsCommandAnswer (IsToldAt limit instance plan certificate) (IsUnjudged limit instance plan certificate)
 
 -- ---- steps on the way
 

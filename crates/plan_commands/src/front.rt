@@ -28,6 +28,7 @@ fn is_why(word: &[u8]) -> bool
         || word == b"until".as_slice()
         || word == b"time".as_slice()
         || word == b"gap".as_slice()
+        || word == b"part".as_slice()
 }
 
 /// Whether a word is a number that fits.

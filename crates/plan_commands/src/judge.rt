@@ -2,14 +2,15 @@
 
 ghost use Rattle.std.specs.Prelude.{◌≡◌, ◌+◌, ◌≤◌, length, string_bytes, Some, IfErr, IfOk, IfSome, MatchResult};
 ghost use Rattle.std.specs.Io.KnownBytes.{Keeps};
-ghost use Rattle.command_streams.specs.declared.limits.TheConstants.{CERTIFICATE_LIMIT, INSTANCE_LIMIT};
+ghost use Rattle.command_streams.specs.declared.limits.TheConstants.{INSTANCE_LIMIT};
 ghost use Rattle.command_streams.specs.Streams.{TakesAtMost};
 ghost use Rattle.command_streams.specs.Instances.{IsOfInstance};
 ghost use Rattle.command_streams.specs.Outcomes.{IfRefused};
+ghost use Rattle.plan_commands.specs.Certified.{certificate_limit};
 ghost use Rattle.plan_commands.specs.Printed.{IsAtFaultOrLong, IsPlanFaultBehind, printed_limit};
 ghost use Rattle.plan_commands.specs.Judged.{HasNoStanding, HasPlanOf, IsBeforeCertificate, IsJudgeAnswer, IsJudgementOf, IsMore, IsNothing, IsRefusedBehind, IsRefusedPlace, IsStanding, IsWritingJudgement, StandsBehind, StandsFor, end_of, judgement_line, judgement_text, limit_of};
 
-use crate::certified::read_bound;
+use crate::certified::read_any_bound;
 use crate::front::{Front, front_of};
 use crate::printed::{read_printed, verified_behind};
 use command_streams::{End, Fault, PLAN_LIMIT, Sink, Source, read_instance, write_text};
@@ -201,23 +202,24 @@ fn write_judgement<W: Write>(alloc: Global, judgement: Judgement, out: &mut W) -
 /// end is `Stopped`. In the plan's place may stand whatever a search printed: a line `stopped`, `limit` or `between`, and behind it
 /// the plan, where one was found; or the word `none`. Where no plan is given `none` is written where the bound is one tick past the horizon, and then the end is
 /// `Absent`; and `between` with the bound and the word `none` where it is smaller. The instance is read and judged first, as
-/// `verify` does, then the plan, and then the certificate as `check` does. Where anything else ends the command nothing is
+/// `verify` does, then the plan, and then the certificate as `check` does, which may be long or not. Where anything else ends the command nothing is
 /// written, and after a failed write a prefix of the line stands.
 pub fn judge_run<I: Read, P: Read, C: Read, W: Write>(
     rt: &(impl Threads + Sync),
     alloc: Global,
+    is_long: bool,
     instance: &mut I,
     plan: &mut P,
     certificate: &mut C,
     out: &mut W,
 ) -> End
     ensures answer { IfSome (I.remaining instance.old) (λ i. IfSome (P.remaining plan.old) (λ p. IfSome (C.remaining certificate.old) (λ c.
-        IsJudgeAnswer i p c (W.contents out.old) (W.contents out.new) result))) }
+        IsJudgeAnswer (certificate_limit is_long) i p c (W.contents out.old) (W.contents out.new) result))) }
     // Of a reader no more is taken than its limit and one byte; of the plan's nothing at a fault of the instance, and of the
     // certificate's nothing at a fault of either.
     ensures instance { TakesAtMost (INSTANCE_LIMIT + 1) (I.remaining instance.old) (I.remaining instance.new) }
     ensures plan { TakesAtMost (printed_limit + 1) (P.remaining plan.old) (P.remaining plan.new) }
-    ensures certificate { TakesAtMost (CERTIFICATE_LIMIT + 1) (C.remaining certificate.old) (C.remaining certificate.new) }
+    ensures certificate { TakesAtMost (certificate_limit is_long + 1) (C.remaining certificate.old) (C.remaining certificate.new) }
     ensures order { IfRefused result (λ fault. IsOfInstance fault → Keeps (P.remaining plan.old) (P.remaining plan.new)) }
     ensures last { IfRefused result (λ fault. IsBeforeCertificate fault → Keeps (C.remaining certificate.old) (C.remaining certificate.new)) }
 {
@@ -225,7 +227,7 @@ pub fn judge_run<I: Read, P: Read, C: Read, W: Write>(
         Ok(standing) => standing,
         Err(fault) => return End::Refused(fault),
     };
-    match read_bound(rt, alloc, &standing.instance, certificate) {
+    match read_any_bound(rt, alloc, is_long, &standing.instance, certificate) {
         Ok(low) => write_judgement(alloc, judgement_of(&standing, low), out),
         Err(fault) => End::Refused(fault),
     }

@@ -12,6 +12,7 @@ mod losses;
 mod node_tables;
 mod picture;
 mod printed;
+mod proof;
 mod replay;
 mod sheets;
 mod verdict;
@@ -30,6 +31,7 @@ pub use laws::{
 pub use node_tables::tables;
 pub use picture::draw_run;
 pub use printed::{bare_fault, printed_of_readers, read_printed};
+pub use proof::read_proof;
 pub use replay::replay_run;
 pub use sheets::schedule_run;
 pub use verdict::{Verified, verified_of_readers, verify};

@@ -1,10 +1,11 @@
 -- How processes are drawn. Own profile.
-use Rattle.std.specs.Prelude.{ℕ, List, ◌++◌, codes, decimal, length, min}
+use Rattle.std.specs.Prelude.{ℕ, List, ◌++◌, codes, decimal, length}
 use Rattle.std.specs.List.{flat_map, range_with_len}
 use Rattle.ttp_model.specs.declared.parts.Process.{Process}
 use Rattle.ttp_model.specs.declared.plan.Plan.{Plan}
 use Rattle.ttp_model.specs.Instance.{Instance, node_at, node_of, process_at}
 use Rattle.ttp_model.specs.Plans.{start_of}
+use Rattle.plan_facts.specs.Ends.{must_end_by}
 use Rattle.plan_picture.specs.declared.canvas.Canvas.{Canvas}
 use Rattle.plan_picture.specs.declared.rectangle.Rectangle.{Rectangle}
 use Rattle.plan_picture.specs.Canvas.{row_of}
@@ -27,7 +28,7 @@ process_words node p start due =
 -- the title of a process
 unfoldable pub process_title_text : Instance → Plan → ℕ → List ℕ
 process_title_text i plan p =
-    codes "<g><title>" ++ (process_words (node_at i (node_of i p)).name (process_at i p) (start_of plan p) (min (process_at i p).deadline i.cluster.horizon)
+    codes "<g><title>" ++ (process_words (node_at i (node_of i p)).name (process_at i p) (start_of plan p) (must_end_by i p)
     ++ codes "</title>")
 
 -- its name in its rectangle, and a line where it starts

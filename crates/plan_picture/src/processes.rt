@@ -6,6 +6,7 @@ ghost use Rattle.plan_picture.specs.Processes.{process_name_text, process_rectan
 
 use crate::canvas::{Canvas, row_of};
 use crate::rectangle::{Rectangle, put_opened};
+use plan_facts::must_end_by;
 use std::alloc::AllocError;
 use std::fmt;
 use ttp_model::{Instance, Plan, Process};
@@ -104,7 +105,7 @@ fn put_process_title(
         node: instance.nodes()[process.node as usize].name.as_str(),
         process,
         start: plan.starts.as_slice()[p] as u64,
-        due: process.deadline.min(instance.cluster().horizon),
+        due: must_end_by(instance, p),
     };
     write!(text, "<g><title>{words}</title>")
 }

@@ -16,6 +16,7 @@ pub use laws::{
     slack_is_exact,
 };
 pub use order::order_of;
+pub use plan_facts::must_end_by;
 pub use slots::{Slot, slot_of};
 pub use table::{Table, print};
 pub use ttp_model::MemoryFault;

@@ -1,25 +1,67 @@
 -- The version of an answer's certificate allows all its lines: with one channel none of them speaks of channels.
-use Rattle.std.proofs.Common.{◌≡◌, ℕ, Bool, true, false, cond, refl, sym, subst}
+use Rattle.std.proofs.Common.{◌≡◌, ℕ, Bool, true, false, List, Option, None, Some, inl, inr, cond, filter, refl, sym, subst}
 use Rattle.std.specs.Prelude.{◌==◌}
 use Rattle.std.proofs.lemmas.Bool.{eqb-true}
+use Rattle.ttp_model.specs.declared.plan.Plan.{Plan}
 use Rattle.ttp_model.specs.Instance.{Instance}
 use Rattle.ttp_model.specs.Rules.{IsInstance}
 use Rattle.certificate.specs.declared.version.Version.{Version}
 use Rattle.certificate.specs.declared.version.Version.TheVariants.{One, Two}
 use Rattle.certificate.specs.Versions.{Allows}
+use Rattle.certificate.specs.declared.node.Node.{Node}
 use Rattle.certificate.specs.Cert.{Cert}
+use Rattle.certificate.specs.Trees.{preorder}
 use Rattle.certificate.proofs.Versions.{two_allows_all}
-use Rattle.dropped_decisions.specs.Proofs.{Proves}
-use Rattle.dropped_decisions.proofs.OneChannel.{one_channel_is_allowed}
-use Rattle.search_workers.specs.declared.outcome.Options.{Options}
-use Rattle.search_workers.specs.declared.outcome.Outcome.{Outcome}
-use Rattle.planner.specs.Answers.{cert_of, IsOutcome}
+use Rattle.begun_search.specs.Begun.{is_open}
+use Rattle.begun_search.specs.Ends.{IsAnswerOf}
+use Rattle.begun_search.specs.Proofs.{Proves}
+use Rattle.begun_search.specs.Searching.{aim_of}
+use Rattle.begun_search.specs.declared.parts.Portion.{Portion}
+use Rattle.begun_search.specs.found.FoundPlan.{FoundPlan}
+use Rattle.begun_search.proofs.OneChannel.{one_channel_is_allowed}
+use Rattle.begun_search.specs.outcome.Options.{Options}
+use Rattle.begun_search.specs.outcome.Outcome.{Outcome}
+use Rattle.begun_search.specs.outcome.Outcome.TheVariants.{Optimal, Infeasible, Stopped}
+use Rattle.begun_search.specs.outcome.Why.{Why}
+use Rattle.planner.specs.Answers.{answer_version, cert_of, from_low, IsOutcome}
+use Rattle.planner.specs.Onward.{further, IsOnward, IsOwn, IsRaised}
 
 by_channels : (i : Instance) (cert : Cert) (alone : Bool) → (i.cluster.channels == 1) ≡ alone → IsInstance i → Proves i cert → Allows (cond alone One Two) cert.tree
 by_channels i cert true is w proves = one_channel_is_allowed i cert w (eqb-true i.cluster.channels 1 is) proves
 by_channels i cert false is w proves = two_allows_all cert.tree
 
+proved_allows : (i : Instance) (cert : Cert) → IsInstance i → Proves i cert → cert.version ≡ answer_version i → Allows cert.version cert.tree
+proved_allows i cert w proves version =
+    subst (λ (v : Version). Allows v cert.tree) (sym version) (by_channels i cert (i.cluster.channels == 1) refl w proves)
+
 pub answer_allows : (i : Instance) (options : Options) (gap : ℕ) (outcome : Outcome) → IsInstance i → IsOutcome i options gap outcome → Allows (cert_of outcome).version (cert_of outcome).tree
-answer_allows i options gap outcome w is =
-    let cert = cert_of outcome in
-    subst (λ (version : Version). Allows version (cert_of outcome).tree) (sym is.version) (by_channels i cert (i.cluster.channels == 1) refl w is.proves)
+answer_allows i options gap outcome w is = proved_allows i (cert_of outcome) w is.proves is.version
+
+-- ---- so does that of a search that goes on from a certificate
+
+own_allows : (i : Instance) (options : Options) (gap : ℕ) (leaves : List Node) (part : Option Portion) (outcome : Outcome) → IsInstance i
+    → IsOwn i options gap leaves part outcome → Allows (cert_of outcome).version (cert_of outcome).tree
+own_allows i options gap leaves None outcome w is = answer_allows i options gap outcome w is
+own_allows i options gap leaves (Some part) outcome w is = proved_allows i (cert_of outcome) w is.proves is.version
+
+end_cert : (i : Instance) (cause : Why) (best : Option FoundPlan) (low : ℕ) (cert : Cert) (outcome : Outcome) → IsAnswerOf i cause best low cert outcome
+    → cert_of outcome ≡ cert
+end_cert i cause best low cert (Optimal plan ticks own) is = is.2
+end_cert i cause best low cert (Infeasible own) is = is.2
+end_cert i cause best low cert (Stopped why bound found own) is = is.4
+
+raised_allows : (i : Instance) (gap : ℕ) (cert : Cert) (own outcome : Outcome) → IsInstance i → IsRaised i gap cert own outcome
+    → Allows (cert_of outcome).version (cert_of outcome).tree
+raised_allows i gap cert own outcome w is =
+    subst (λ (c : Cert). Allows c.version c.tree)
+    (sym (end_cert i is.says.cause is.best is.says.low (from_low is.says.low is.joined) outcome is.says.is))
+    (proved_allows i is.joined w is.proves is.version)
+
+pub onward_allows : (i : Instance) (options : Options) (gap : ℕ) (start : Option Plan) (cert : Cert) (part : Option Portion) (outcome : Outcome)
+    → IsInstance i → IsOnward i options gap start cert part outcome → Allows (cert_of outcome).version (cert_of outcome).tree
+onward_allows i options gap start cert part outcome w is = elim is.told [
+  | inl same ↦
+      subst (λ (o : Outcome). Allows (cert_of o).version (cert_of o).tree) (sym same)
+      (own_allows i (further options is.made) gap (filter (is_open (aim_of i is.aims is.first)) (preorder cert.tree)) part is.own w is.answer)
+  | inr raised ↦ raised_allows i gap cert is.own outcome w raised
+]

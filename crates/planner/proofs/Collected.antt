@@ -7,21 +7,21 @@ use Rattle.ttp_model.specs.Instance.{Instance}
 use Rattle.ttp_model.specs.Rules.{IsInstance}
 use Rattle.certificate.specs.declared.node.Node.{Node}
 use Rattle.certificate.specs.declared.node.Node.TheVariants as node
-use Rattle.search_workers.specs.piece.Piece.{Piece}
-use Rattle.search_workers.specs.Task.{Task, IsTask}
+use Rattle.begun_search.specs.piece.Piece.{Piece}
+use Rattle.begun_search.specs.Task.{Task, IsTask}
 use Rattle.incumbent.specs.declared.word.Incumbent.{Incumbent}
 use Rattle.incumbent.specs.Watch.{first_value, seen, offers, IsLeast}
-use Rattle.steal_pool.specs.Hand.{all_pushed, all_taken}
-use Rattle.search_workers.specs.declared.aims.Aims.{Aims}
-use Rattle.search_workers.specs.Goals.{goals_of, goals_at, IsReached}
-use Rattle.search_workers.specs.Tasks.{tasks_of, all_born}
+use Rattle.begun_search.specs.Hand.{all_pushed, all_taken}
+use Rattle.begun_search.specs.aims.Aims.{Aims}
+use Rattle.begun_search.specs.Goals.{goals_of, goals_at, IsReached}
+use Rattle.begun_search.specs.Tasks.{tasks_of, all_born}
 use Rattle.planner.specs.declared.crew.Crew.{Crew}
-use Rattle.search_workers.specs.Searching.{aim_of, limit_of, IsSearching}
-use Rattle.search_workers.proofs.Goals.{goal_rises}
-use Rattle.search_workers.specs.Gathering.{HasGoal, HaveGoals}
+use Rattle.begun_search.specs.Searching.{aim_of, limit_of, IsSearchingOf}
+use Rattle.begun_search.proofs.Goals.{goal_rises}
+use Rattle.begun_search.specs.Gathering.{HasGoal, HaveGoals}
 use Rattle.planner.specs.Crew.{HasLeft, HaveEnded}
-use Rattle.search_workers.proofs.Searching.{first_is, then_is}
-use Rattle.search_workers.proofs.Searching.{none_below}
+use Rattle.begun_search.proofs.Searching.{first_is, then_is}
+use Rattle.begun_search.proofs.Searching.{none_below}
 
 -- one task more is drained
 pub one_drained : {X : Type 0} (t : X) (drained new old begun : List X) → IsPermutation new (t ∷ old) → IsPermutation old (drained ++ begun) → IsPermutation new ((drained ++ t ∷ []) ++ begun)
@@ -56,7 +56,7 @@ have_goals : (limit : ℕ) (Q : ℕ → Type 0) → ((x : ℕ) → Q x → limit
 have_goals limit Q above [] all = All-nil (λ (p : Piece). HasGoal limit p.node)
 have_goals limit Q above (piece ∷ pieces) all = one_goal limit Q above piece pieces piece.node refl all (λ rest. have_goals limit Q above pieces rest)
 
-module _ {J : Type 0} (i : Instance) (aims : Aims) (word : Incumbent) (crew : Crew J) (w : IsInstance i) (ended : HaveEnded i aims word crew) (least : ℕ) (is : IsLeast (first_value word ∷ offers crew.watch) least) (below : All (λ x. least ≤ x) (seen crew.watch)) (all : List Task)
+module _ {J : Type 0} (i : Instance) (aims : Aims) (word : Incumbent) (crew : Crew J) (w : IsInstance i) (given : List Task) (ended : HaveEnded i aims word given crew) (least : ℕ) (is : IsLeast (first_value word ∷ offers crew.watch) least) (below : All (λ x. least ≤ x) (seen crew.watch)) (all : List Task)
     (each : All (IsTask i) all) (left : HasLeft crew.hands.items crew.tasks.items all) where
   limit_below : limit_of i crew.best ≤ least
   limit_below =
@@ -73,7 +73,7 @@ module _ {J : Type 0} (i : Instance) (aims : Aims) (word : Incumbent) (crew : Cr
   reached_above : (x : ℕ) → IsReached i aims crew.watch x → aim_of i aims crew.best ≤ x
   reached_above x h = omega (arith, goal_rises i aims (limit_of i crew.best) h.value (value_above x h), h.at_most)
 
-  pub ends_searching : IsSearching i aims crew.pieces.items all crew.best
+  pub ends_searching : IsSearchingOf i aims given crew.pieces.items all crew.best
   ends_searching =
       let g = ended.gathers in
       let takes = then_is _ _ _ g.takes (ap (λ (l : List Task). l ++ (tasks_of g.turns ++ g.in_hand)) ended.takes) in

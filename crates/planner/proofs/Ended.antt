@@ -1,7 +1,7 @@
 -- What the tree of a search at its end makes of the best plan.
 use Rattle.std.proofs.Common.{◌≡◌, ℕ, ◌+◌, ◌<◌, ◌≤◌, List, [], ◌∷◌, ◌++◌, inl, inr, Option, None, Some, refl, sym, ap, subst, ◌∙◌, arith, All, IfSome, min}
 use Rattle.std.proofs.lemmas.List.Elements.{All-head, All-tail, All-cons, All-nil, All-append, All-contains, All-weaker}
-use Rattle.search_workers.specs.declared.found.FoundPlan.{FoundPlan}
+use Rattle.begun_search.specs.found.FoundPlan.{FoundPlan}
 use Rattle.ttp_model.specs.Instance.{Instance}
 use Rattle.ttp_model.specs.Chains.{IsPathBound}
 use Rattle.ttp_model.specs.Rules.{IsInstance}
@@ -11,21 +11,21 @@ use Rattle.certificate.specs.declared.node.Node.{Node}
 use Rattle.certificate.specs.declared.node.Node.TheVariants as node
 use Rattle.certificate.specs.Trees.{Trees, none, grow, preorder}
 use Rattle.certificate.specs.Cert.{Cert}
-use Rattle.dropped_decisions.specs.Proofs.{choices_below, Suits, AreProofs, Proves}
-use Rattle.search_workers.specs.Gathering.{HasGoal}
-use Rattle.search_workers.specs.declared.aims.Aims.{Aims}
-use Rattle.search_workers.proofs.Goals.{goal_near, goal_past}
-use Rattle.search_workers.specs.declared.outcome.Options.{Options}
-use Rattle.search_workers.specs.declared.outcome.Outcome.{Outcome}
-use Rattle.search_workers.specs.declared.outcome.Outcome.TheVariants.{Optimal, Infeasible, Stopped}
-use Rattle.search_workers.specs.declared.outcome.Why.{Why}
-use Rattle.search_workers.specs.declared.outcome.Why.TheVariants.{Budget, Memory, CalledOff, Gap}
-use Rattle.search_workers.specs.Searching.{aim_of, limit_of, IsFound}
-use Rattle.search_workers.specs.Ends.{IsAnswerOf, IsCauseTold, IsFar}
-use Rattle.search_workers.proofs.Searching.{aim_below, weaker_goal}
-use Rattle.dropped_decisions.specs.Branches.{branches}
+use Rattle.begun_search.specs.Proofs.{choices_below, Suits, AreProofs, Proves}
+use Rattle.begun_search.specs.Gathering.{HasGoal}
+use Rattle.begun_search.specs.aims.Aims.{Aims}
+use Rattle.begun_search.proofs.Goals.{goal_near, goal_past}
+use Rattle.begun_search.specs.outcome.Options.{Options}
+use Rattle.begun_search.specs.outcome.Outcome.{Outcome}
+use Rattle.begun_search.specs.outcome.Outcome.TheVariants.{Optimal, Infeasible, Stopped}
+use Rattle.begun_search.specs.outcome.Why.{Why}
+use Rattle.begun_search.specs.outcome.Why.TheVariants.{Budget, Memory, CalledOff, Gap, Part}
+use Rattle.begun_search.specs.Searching.{aim_of, limit_of, IsFound}
+use Rattle.begun_search.specs.Ends.{IsAnswerOf, IsCauseTold, IsFar}
+use Rattle.begun_search.proofs.Searching.{aim_below, weaker_goal}
+use Rattle.begun_search.specs.Branches.{branches}
 use Rattle.planner.specs.Answers.{answer_version, from_low, IsBestAbove, IsCause, IsOutcome}
-use Rattle.planner.specs.Searched.{AreAims, IsEndTree, IsExhausted, IsLowest, IsReason, HasLeafAt}
+use Rattle.planner.specs.Searched.{AreAims, IsEndAnswer, IsEndTree, IsExhausted, IsLowest, IsReason, HasLeafAt}
 use Rattle.planner.proofs.Searched.{limit_small}
 
 -- ---- goals of a tree's leaves
@@ -56,7 +56,7 @@ suits_higher i low high c (node.Branch branch) is goal = is
 suits_higher i low high c (node.Leaf leaf) is goal = record { goal = goal; closes = is.closes }
 
 -- trees prove each bound that none of their leaves is below
-proofs_higher : (i : Instance) (low high : ℕ) (cs : List Choice) (trees : Trees) → AreProofs i low cs trees → All (HasGoal high) (preorder trees)
+pub proofs_higher : (i : Instance) (low high : ℕ) (cs : List Choice) (trees : Trees) → AreProofs i low cs trees → All (HasGoal high) (preorder trees)
     → AreProofs i high cs trees
 proofs_higher i low high [] none are goals = tt
 proofs_higher i low high [] (grow n below beside) are goals = absurd are
@@ -72,7 +72,7 @@ proofs_higher i low high (c ∷ cs) (grow n below beside) are goals =
 
 -- ---- the bound that is told
 
-leaf_goal : (low : ℕ) (nodes : List Node) (at : ℕ) → All (HasGoal low) nodes → HasLeafAt nodes at → low ≤ at
+pub leaf_goal : (low : ℕ) (nodes : List Node) (at : ℕ) → All (HasGoal low) nodes → HasLeafAt nodes at → low ≤ at
 leaf_goal low nodes at all leaf = omega (arith, All-contains (HasGoal low) nodes (node.Leaf leaf.leaf) all leaf.there, leaf.reached)
 
 -- where nothing of the tree is left, nor the bound at the limit, the best plan is within the gap
@@ -80,7 +80,7 @@ near_enough : (i : Instance) (gap own low : ℕ) (best : Option FoundPlan) → I
 near_enough i gap own low None left le less far = absurd (omega (arith, left, le, less))
 near_enough i gap own low (Some best) left le less far = absurd (omega (arith, left, le, far))
 
-best_above : (i : Instance) (low : ℕ) (best : Option FoundPlan) → IsFound i best → low < limit_of i best → IsBestAbove i low best
+pub best_above : (i : Instance) (low : ℕ) (best : Option FoundPlan) → IsFound i best → low < limit_of i best → IsBestAbove i low best
 best_above i low None found less = tt
 best_above i low (Some best) found less = (found, less)
 
@@ -124,6 +124,7 @@ module _ (i : Instance) (options : Options) (gap : ℕ) (why cause : Why) (best 
   by_reason less far Memory all = (far, all)
   by_reason less far CalledOff all = (far, all)
   by_reason less far Gap all = absurd (near_enough i gap cert.low low best all at_least less far)
+  by_reason less far Part all = absurd all
 
   cause_is : low < limit → IsCause i options gap low best (from_low low cert) cause
   cause_is less = elim told [
@@ -165,6 +166,11 @@ module _ (i : Instance) (options : Options) (gap : ℕ) (why cause : Why) (best 
       })
   end_answers (Stopped other bound best_told own) answer =
       same_stopped i options gap other cause bound low best_told best own (from_low low cert) answer.1 answer.2 answer.3 answer.4 (stopped answer.0)
+
+pub end_outcome : (i : Instance) (options : Options) (gap : ℕ) (why : Why) (best : Option FoundPlan) (cert : Cert) (outcome : Outcome) → IsInstance i
+    → IsFound i best → IsEndTree i options gap why best cert → IsEndAnswer i gap why best cert outcome → IsOutcome i options gap outcome
+end_outcome i options gap why best cert outcome w found tree answer =
+    end_answers i options gap why answer.cause best answer.low cert w found tree answer.lowest answer.told outcome answer.is
 
 -- ---- a tree without what needn't be worked
 

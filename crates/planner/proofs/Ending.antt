@@ -1,33 +1,26 @@
 -- What a search comes to, once what it left is closed.
-use Rattle.std.proofs.Common.{◌≡◌, ℕ, zero, suc, ◌<◌, ◌≤◌, min, List, [], ◌∷◌, ◌++◌, Option, ◌⊎◌, inl, inr, ⊎_elim, sym, ap, subst, ◌∙◌, arith, length, get_or, All, Contains}
+use Rattle.std.proofs.Common.{◌≡◌, ℕ, zero, suc, ◌<◌, ◌≤◌, min, List, [], ◌∷◌, ◌++◌, Option, ◌⊎◌, inl, inr, ⊎_elim, sym, ap, subst, ◌∙◌, arith, length, get_or, All}
 use Rattle.std.proofs.lemmas.List.{map-append}
-use Rattle.std.proofs.lemmas.List.Elements.{All-append, All-weaker, All-contains, Contains-append_left, Contains-append_right}
-use Rattle.search_workers.specs.declared.found.FoundPlan.{FoundPlan}
+use Rattle.std.proofs.lemmas.List.Elements.{All-append, All-weaker, All-contains, Contains-append_left}
+use Rattle.begun_search.specs.found.FoundPlan.{FoundPlan}
 use Rattle.ttp_model.specs.declared.step.Leaf.{Leaf}
 use Rattle.ttp_model.specs.Instance.{Instance}
 use Rattle.ttp_model.specs.Chains.{IsPathBound}
-use Rattle.tt_choice.specs.Choice.{Choice}
-use Rattle.certificate.specs.declared.limits.TheConstants.{MOST_BRANCHES_ABOVE}
 use Rattle.certificate.specs.declared.node.Node.TheVariants as node
-use Rattle.search_workers.specs.piece.Piece.{Piece}
-use Rattle.search_workers.specs.Name.{Name}
-use Rattle.search_workers.specs.Task.{Task, choice_of, IsTask}
-use Rattle.search_workers.specs.Pieces.{IsRight, StandsAt, AreRight}
-use Rattle.search_workers.specs.Account.{IsWholeTree}
-use Rattle.search_workers.specs.Work.{IsLeftClosed}
-use Rattle.search_workers.proofs.OneChoice.{stands_alone}
-use Rattle.search_workers.proofs.Children.{leaf_right}
-use Rattle.search_workers.specs.declared.aims.Aims.{Aims}
-use Rattle.search_workers.specs.Tasks.{tasks_of}
-use Rattle.search_workers.specs.declared.outcome.Options.{Options}
-use Rattle.search_workers.specs.Searching.{aim_of, IsWorkedOut, task_names, IsSearching}
-use Rattle.search_workers.specs.Gathering.{HasGoal, HaveGoals, AreShallow, IsLeafPiece}
+use Rattle.begun_search.specs.piece.Piece.{Piece}
+use Rattle.begun_search.specs.Name.{Name}
+use Rattle.begun_search.specs.Task.{Task}
+use Rattle.begun_search.specs.Account.{IsWholeTree}
+use Rattle.begun_search.specs.Work.{IsLeftClosed}
+use Rattle.begun_search.specs.aims.Aims.{Aims}
+use Rattle.begun_search.specs.outcome.Options.{Options}
+use Rattle.begun_search.specs.Searching.{aim_of, IsWorkedOut, task_names, IsSearching}
+use Rattle.begun_search.specs.Gathering.{HasGoal, HaveGoals, AreShallow}
 use Rattle.planner.specs.Searched.{IsSearched, IsClosedLeaf, ReachesGoal}
-use Rattle.planner.specs.Closing.{ClosesOne, AreClosed}
-use Rattle.search_workers.specs.declared.outcome.Why.{Why}
-use Rattle.search_workers.proofs.Searching.{last_there, one_only, weaker_goal}
-use Rattle.planner.proofs.Standing.{whole, right, shallow, stands}
-use Rattle.search_workers.proofs.Leaves.{closed_whole, closed_right}
+use Rattle.planner.specs.Closing.{ClosesOne, AreClosed, AreEnds}
+use Rattle.begun_search.specs.outcome.Why.{Why}
+use Rattle.begun_search.proofs.Searching.{last_there, one_only, weaker_goal}
+use Rattle.planner.proofs.Ends.{closed_ends, ends_right, ends_shallow, ends_whole}
 
 pub end_low : (low limit : ℕ) (closed : List Piece) → (low ≡ limit) ⊎ ((low < limit) × ReachesGoal low closed) → low ≤ limit
 end_low low limit closed (inl e) = omega (arith, e)
@@ -41,12 +34,6 @@ closes_leaf i limit low tasks p one goal =
 all_leaves : (i : Instance) (limit low : ℕ) (tasks : List Task) (closed : List Piece) → All (ClosesOne i tasks limit) closed → HaveGoals low closed → All (IsClosedLeaf i limit low) closed
 all_leaves i limit low tasks closed each goals = λ j d lt. closes_leaf i limit low tasks (get_or closed j d) (each j d lt) (goals j d lt)
 
-is_leaf_piece : (i : Instance) (limit : ℕ) (tasks : List Task) (p : Piece) → ClosesOne i tasks limit p → IsLeafPiece p
-is_leaf_piece i limit tasks p one = record { leaf = one.is.leaf; is = one.is.node }
-
-closed_leaves : (i : Instance) (limit : ℕ) (tasks : List Task) (closed : List Piece) → All (ClosesOne i tasks limit) closed → All IsLeafPiece closed
-closed_leaves i limit tasks closed each = All-weaker (ClosesOne i tasks limit) IsLeafPiece (is_leaf_piece i limit tasks) closed each
-
 -- ---- the pieces of a search, and those that close what it left
 
 module _ (i : Instance) (aims : Aims) (made : List Piece) (tasks : List Task) (found : Option FoundPlan) (low : ℕ) (closed : List Piece)
@@ -54,30 +41,14 @@ module _ (i : Instance) (aims : Aims) (made : List Piece) (tasks : List Task) (f
   abbrev limit : ℕ
   limit = aim_of i aims found
 
-  made_whole : IsWholeTree made (task_names tasks)
-  made_whole = subst (λ (ps : List Piece). IsWholeTree ps (task_names tasks)) s.pieces (whole i s.turns tasks s.each s.account)
-
-  made_right : AreRight i made
-  made_right = subst (AreRight i) s.pieces (right i s.turns tasks s.each s.account)
-
-  made_shallow : AreShallow made
-  made_shallow = subst AreShallow s.pieces (shallow i s.turns tasks s.each s.account)
-
-  made_stands : (t : Task) → Contains tasks t → StandsAt i made t.name (choice_of i t)
-  made_stands t there = subst (λ (ps : List Piece). StandsAt i ps t.name (choice_of i t)) s.pieces (stands i s.turns tasks s.each s.account t (Contains-append_right (tasks_of s.turns) tasks t there))
-
-  closes_shallow : (p : Piece) → ClosesOne i tasks limit p → length p.name ≤ MOST_BRANCHES_ABOVE
-  closes_shallow p one =
-      let own : IsTask i one.task = All-contains (IsTask i) tasks one.task s.open_tasks one.there in
-      omega (arith, own.shallow, ap (λ (w : Name). length w) one.is.name)
+  are_ends : AreEnds i tasks closed
+  are_ends = closed_ends i tasks limit closed low c
 
   pub end_shallow : AreShallow (made ++ closed)
-  end_shallow =
-      All-append (λ (q : Piece). length q.name ≤ MOST_BRANCHES_ABOVE) made closed made_shallow
-      (All-weaker (ClosesOne i tasks limit) (λ (q : Piece). length q.name ≤ MOST_BRANCHES_ABOVE) closes_shallow closed c.each)
+  end_shallow = ends_shallow i aims made tasks found closed s are_ends
 
   pub end_whole : IsWholeTree (made ++ closed) []
-  end_whole = closed_whole made closed (subst (IsWholeTree made) (sym c.names) made_whole) (closed_leaves i limit tasks closed c.each)
+  end_whole = ends_whole i aims made tasks found closed s are_ends
 
   pub end_goals : HaveGoals low (made ++ closed)
   end_goals =
@@ -85,18 +56,11 @@ module _ (i : Instance) (aims : Aims) (made : List Piece) (tasks : List Task) (f
       (All-weaker (λ (q : Piece). HasGoal limit q.node) (λ (q : Piece). HasGoal low q.node) (λ q. weaker_goal limit low (end_low low limit closed c.least) q.node) made s.goals)
       c.goals
 
-  closes_right : (p : Piece) (d : Choice) → Contains closed p → StandsAt i made p.name d → IsRight i d p.node
-  closes_right p d there stands =
-      let one : ClosesOne i tasks limit p = All-contains (ClosesOne i tasks limit) closed p c.each there in
-      let here : StandsAt i made one.task.name d = subst (λ (w : Name). StandsAt i made w d) one.is.name stands in
-      let same : choice_of i one.task ≡ d = stands_alone i made (task_names tasks) one.task.name (choice_of i one.task) d made_whole (made_stands one.task one.there) here in
-      subst (λ (e : Choice). IsRight i e p.node) same (subst (IsRight i (choice_of i one.task)) (sym one.is.node) (leaf_right i (choice_of i one.task) one.is.leaf one.is.closes))
-
   pub ends : (options : Options) (why : Why) → length made ≤ options.budget → IsWorkedOut options.budget made why
       → IsSearched i options aims why found made closed low
   ends options why within cause = record {
     whole = end_whole;
-    right = closed_right i made closed (closed_leaves i limit tasks closed c.each) made_right closes_right;
+    right = ends_right i aims made tasks found closed s are_ends;
     found = s.found;
     goals = s.goals;
     leaves = all_leaves i limit low tasks closed c.each c.goals;

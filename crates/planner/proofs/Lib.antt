@@ -12,3 +12,9 @@ pub mod Jobs
 pub mod Starts
 pub mod Pools
 pub mod Collected
+pub mod Pooled
+pub mod Staying
+pub mod Ends
+pub mod PartTrees
+pub mod Proved
+pub mod RaisedBounds

@@ -1,16 +1,18 @@
 -- The hands of a pool, after some of them have changed.
 use Rattle.std.proofs.Common.{◌≡◌, ℕ, zero, suc, List, [], ◌∷◌, ◌++◌, refl, sym, ap, subst, ◌∙◌, length, length-set}
 use Rattle.std.specs.List.Sorted.{IsPermutation}
+use Rattle.std.proofs.lemmas.List.{append-nil}
+use Rattle.std.proofs.lemmas.List.Sorted.{IsPermutation-trans}
 use mathlib.Core.Option.{some, some-injective, some-ne-none}
 use lib.ListN.{get_elem?}
-use Rattle.search_workers.specs.Task.{Task}
-use Rattle.steal_pool.specs.declared.hand.Hand.{Hand}
-use Rattle.steal_pool.specs.Door.{DequeId}
-use Rattle.steal_pool.specs.Hand.{pushed, taken, IsSameHand, IsHandOf, IsPool, ChangesAt, all_pushed, all_taken}
-use Rattle.steal_pool.proofs.Orders.{more_in_one, same_in_all}
-use Rattle.steal_pool.proofs.Pools.{each_change}
-use Rattle.planner.specs.Crew.{AreSameHands}
-use Rattle.search_workers.proofs.Searching.{first_is, then_is}
+use Rattle.begun_search.specs.Task.{Task}
+use Rattle.begun_search.specs.hand.Hand.{Hand}
+use Rattle.begun_search.specs.Door.{DequeId}
+use Rattle.begun_search.specs.Hand.{pushed, taken, IsSameHand, IsHandOf, IsPool, ChangesAt, all_pushed, all_taken}
+use Rattle.begun_search.proofs.Orders.{more_in_one, same_in_all}
+use Rattle.begun_search.proofs.Pools.{each_change}
+use Rattle.planner.specs.Crew.{AreSameHands, IsGiven}
+use Rattle.begun_search.proofs.Searching.{first_is, then_is}
 
 module _ {J : Type 0} where
   hand_of_still : (ids : List DequeId) (place : ℕ) (g h : Hand J) → IsSameHand g h → IsHandOf ids place g → IsHandOf ids place h
@@ -21,22 +23,18 @@ module _ {J : Type 0} where
     out = same.out ∙ is.out;
   }
 
-  -- a hand was given a task
-  pub record IsGiven (t : Task) (g h : Hand J) : Type 0 where
-    pub same : IsSameHand g h
-    pub pushes : pushed h ≡ pushed g ++ t ∷ []
-    pub takes : taken h ≡ taken g
-
-  module _ (hands new : List (Hand J)) (k : ℕ) (t : Task) (change : ChangesAt hands k (IsGiven t) new) where
+  module _ (hands new : List (Hand J)) (k : ℕ) (tasks : List Task) (change : ChangesAt hands k (IsGiven tasks) new) where
     pub pool_given : IsPool hands → IsPool new
     pool_given pool = (
       pool.0,
       pool.1 ∙ (sym (length-set hands k change.1) ∙ sym (ap length change.3)),
-      each_change (IsHandOf pool.0) (IsHandOf pool.0) hands k (IsGiven t) new pool.2 change (λ place h apart is. is) (λ g h is given. hand_of_still pool.0 k g h given.same is),
+      each_change (IsHandOf pool.0) (IsHandOf pool.0) hands k (IsGiven tasks) new pool.2 change (λ place h apart is. is) (λ g h is given. hand_of_still pool.0 k g h given.same is),
     )
 
-    pub pushed_given : all_pushed hands ≡ [] → IsPermutation (all_pushed new) (t ∷ [])
-    pushed_given none = first_is _ _ _ (ap all_pushed change.3) (then_is _ _ _ (more_in_one pushed hands k change.0 change.1 (t ∷ []) change.2 change.4.pushes) (ap (λ (l : List Task). t ∷ l) none))
+    pub pushed_given : all_pushed hands ≡ [] → IsPermutation (all_pushed new) tasks
+    pushed_given none = first_is _ _ _ (ap all_pushed change.3)
+        (IsPermutation-trans _ _ _ (then_is _ _ _ (more_in_one pushed hands k change.0 change.1 change.4.gave change.2 change.4.pushes)
+        (ap (λ (l : List Task). change.4.gave ++ l) none ∙ append-nil change.4.gave)) change.4.all)
 
     pub taken_given : all_taken hands ≡ [] → all_taken new ≡ []
     taken_given none = ap all_taken change.3 ∙ same_in_all taken hands k change.0 change.1 change.2 change.4.takes ∙ none

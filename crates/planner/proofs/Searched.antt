@@ -1,5 +1,6 @@
 -- What a search leaves at its end makes a tree from which it is told.
-use Rattle.std.proofs.Common.{◌≡◌, ℕ, ◌+◌, ◌-◌, ◌≤◌, Bool, true, false, List, [], ◌∷◌, ◌++◌, Option, None, Some, refl, sym, ap, subst, ◌∙◌, arith, map, length, All, cond, min}
+use Rattle.std.proofs.Common.{◌≡◌, ℕ, ◌+◌, ◌≤◌, Bool, true, false, List, [], ◌∷◌, ◌++◌, Option, None, Some, refl, sym, ap, subst, ◌∙◌, arith, map, length, All}
+use Rattle.std.proofs.Common.{cond, min}
 use Rattle.std.specs.Prelude.{count_by, nat_le}
 use Rattle.std.specs.List.Sorted.{IsPermutation}
 use Rattle.std.proofs.lemmas.Bool.{le-leb}
@@ -7,7 +8,7 @@ use Rattle.std.proofs.lemmas.List.{map-append}
 use Rattle.std.proofs.lemmas.List.Elements.{All-head, All-tail, All-map, All-append, All-weaker}
 use Rattle.std.proofs.lemmas.List.Sums.{sum_by-cons, sum_by-append}
 use Rattle.std.proofs.lemmas.List.Sorted.{IsPermutation-map, All-permutation, sum_by-IsPermutation}
-use Rattle.search_workers.specs.declared.found.FoundPlan.{FoundPlan}
+use Rattle.begun_search.specs.found.FoundPlan.{FoundPlan}
 use Rattle.ttp_model.specs.Instance.{Instance}
 use Rattle.ttp_model.specs.Chains.{IsPathBound}
 use Rattle.ttp_model.specs.Rules.{IsInstance}
@@ -16,22 +17,22 @@ use Rattle.certificate.specs.declared.node.Node.{Node}
 use Rattle.certificate.specs.declared.node.Node.TheVariants as node
 use Rattle.certificate.specs.Trees.{Trees, preorder}
 use Rattle.certificate.specs.Cert.{Cert}
-use Rattle.dropped_decisions.specs.Proofs.{Proves}
-use Rattle.search_workers.specs.piece.Piece.{Piece}
-use Rattle.search_workers.specs.declared.outcome.Options.{Options}
-use Rattle.search_workers.specs.declared.outcome.Why.{Why}
-use Rattle.search_workers.specs.declared.outcome.Why.TheVariants.{Budget, Memory, CalledOff, Gap}
-use Rattle.search_workers.specs.Trees.{IsTreeOf, pieces_of}
-use Rattle.search_workers.specs.Gathering.{HasGoal, HaveGoals, IsGathered}
-use Rattle.dropped_decisions.specs.Branches.{is_branch, branches}
+use Rattle.begun_search.specs.Proofs.{Proves}
+use Rattle.begun_search.specs.piece.Piece.{Piece}
+use Rattle.begun_search.specs.outcome.Options.{Options}
+use Rattle.begun_search.specs.outcome.Why.{Why}
+use Rattle.begun_search.specs.outcome.Why.TheVariants.{Budget, Memory, CalledOff, Gap, Part}
+use Rattle.begun_search.specs.Trees.{IsTreeOf, pieces_of}
+use Rattle.begun_search.specs.Gathering.{HasGoal, HaveGoals, IsGathered, IsLeafPiece}
+use Rattle.begun_search.specs.Branches.{is_branch, branches}
 use Rattle.planner.specs.Answers.{is_closed_at, worked_at, worked_goal, in_answer}
-use Rattle.search_workers.specs.Searching.{aim_of, limit_of, IsFound, IsWorkedOut}
+use Rattle.begun_search.specs.Searching.{aim_of, limit_of, IsFound, IsWorkedOut}
 use Rattle.planner.specs.Searched.{AreAims, IsClosedLeaf, IsEndTree, IsReason, IsSearched}
-use Rattle.search_workers.specs.declared.aims.Aims.{Aims}
-use Rattle.search_workers.proofs.Goals.{goal_near, goal_past}
-use Rattle.search_workers.proofs.Searching.{aim_below, weaker_goal}
-use Rattle.search_workers.proofs.Existence.{tree_nodes}
-use Rattle.search_workers.proofs.Proving.{gathered_proves}
+use Rattle.begun_search.specs.aims.Aims.{Aims}
+use Rattle.begun_search.proofs.Goals.{goal_near, goal_past}
+use Rattle.begun_search.proofs.Searching.{aim_below, weaker_goal}
+use Rattle.begun_search.proofs.Existence.{tree_nodes}
+use Rattle.begun_search.proofs.Proving.{gathered_proves}
 
 abbrev nodes_of : List Piece → List Node
 nodes_of pieces = map (λ (p : Piece). p.node) pieces
@@ -41,7 +42,7 @@ nodes_of pieces = map (λ (p : Piece). p.node) pieces
 abbrev one : Bool → ℕ
 one b = cond b 1 0
 
-count_cons : (p : Node → Bool) (n : Node) (ns : List Node) → count_by p (n ∷ ns) ≡ cond (p n) 1 0 + count_by p ns
+pub count_cons : (p : Node → Bool) (n : Node) (ns : List Node) → count_by p (n ∷ ns) ≡ cond (p n) 1 0 + count_by p ns
 count_cons p n ns = sum_by-cons (λ (m : Node). cond (p m) 1 0) n ns
 
 at_most_one : (b : Bool) → cond b 1 0 ≤ 1
@@ -54,14 +55,18 @@ branches_at_most (p ∷ pieces) =
     omega (arith, count_cons is_branch p.node (nodes_of pieces), at_most_one (is_branch p.node), branches_at_most pieces)
 
 -- a leaf is no branch
-no_branch : (i : Instance) (limit low : ℕ) (p : Piece) → IsClosedLeaf i limit low p → is_branch p.node ≡ false
-no_branch i limit low p is = ap is_branch is.is
+no_branch : (p : Piece) → IsLeafPiece p → is_branch p.node ≡ false
+no_branch p is = ap is_branch is.is
 
-no_branches : (i : Instance) (limit low : ℕ) (pieces : List Piece) → All (IsClosedLeaf i limit low) pieces → count_by is_branch (nodes_of pieces) ≡ 0
-no_branches i limit low [] leaves = refl
-no_branches i limit low (p ∷ pieces) leaves =
-    let first : one (is_branch p.node) ≡ 0 = ap one (no_branch i limit low p (All-head (IsClosedLeaf i limit low) p pieces leaves)) in
-    omega (arith, count_cons is_branch p.node (nodes_of pieces), first, no_branches i limit low pieces (All-tail (IsClosedLeaf i limit low) p pieces leaves))
+no_branches : (pieces : List Piece) → All IsLeafPiece pieces → count_by is_branch (nodes_of pieces) ≡ 0
+no_branches [] leaves = refl
+no_branches (p ∷ pieces) leaves =
+    let first : one (is_branch p.node) ≡ 0 = ap one (no_branch p (All-head IsLeafPiece p pieces leaves)) in
+    omega (arith, count_cons is_branch p.node (nodes_of pieces), first, no_branches pieces (All-tail IsLeafPiece p pieces leaves))
+
+all_leaves : (i : Instance) (limit low : ℕ) (pieces : List Piece) → All (IsClosedLeaf i limit low) pieces → All IsLeafPiece pieces
+all_leaves i limit low pieces leaves =
+    All-weaker (IsClosedLeaf i limit low) IsLeafPiece (λ p leaf. record { leaf = leaf.leaf; is = leaf.is }) pieces leaves
 
 -- each node with a goal at the limit is a branch or a leaf at the limit
 one_of_both : (limit : ℕ) (n : Node) → HasGoal limit n → 1 ≤ cond (is_branch n) 1 0 + cond (is_closed_at limit n) 1 0
@@ -87,18 +92,18 @@ count_both p xs ys =
 
 -- ---- the nodes of the tree
 
-nodes_moved : (pieces : List Piece) (tree : Trees) → IsTreeOf pieces tree → IsPermutation (nodes_of pieces) (preorder tree)
+pub nodes_moved : (pieces : List Piece) (tree : Trees) → IsTreeOf pieces tree → IsPermutation (nodes_of pieces) (preorder tree)
 nodes_moved pieces tree is =
     subst (IsPermutation (nodes_of pieces)) (sym (tree_nodes tree is.one)) (IsPermutation-map (λ (p : Piece). p.node) pieces (pieces_of tree) is.same)
 
 count_tree : (p : Node → Bool) (pieces : List Piece) (tree : Trees) → IsTreeOf pieces tree → count_by p (preorder tree) ≡ count_by p (nodes_of pieces)
 count_tree p pieces tree is = sum_by-IsPermutation (λ (m : Node). cond (p m) 1 0) (nodes_of pieces) (preorder tree) (nodes_moved pieces tree is)
 
-within_budget : (i : Instance) (limit low : ℕ) (worked closed : List Piece) (tree : Trees) → IsTreeOf (worked ++ closed) tree → All (IsClosedLeaf i limit low) closed → branches tree ≤ length worked
-within_budget i limit low worked closed tree is leaves =
-    omega (arith, count_tree is_branch (worked ++ closed) tree is, count_both is_branch worked closed, branches_at_most worked, no_branches i limit low closed leaves)
+pub within_budget : (worked closed : List Piece) (tree : Trees) → IsTreeOf (worked ++ closed) tree → All IsLeafPiece closed → branches tree ≤ length worked
+within_budget worked closed tree is leaves =
+    omega (arith, count_tree is_branch (worked ++ closed) tree is, count_both is_branch worked closed, branches_at_most worked, no_branches closed leaves)
 
-all_worked : (limit : ℕ) (worked closed : List Piece) (tree : Trees) → IsTreeOf (worked ++ closed) tree → HaveGoals limit worked → length worked ≤ worked_at limit tree
+pub all_worked : (limit : ℕ) (worked closed : List Piece) (tree : Trees) → IsTreeOf (worked ++ closed) tree → HaveGoals limit worked → length worked ≤ worked_at limit tree
 all_worked limit worked closed tree is goals =
     omega (
       arith,
@@ -120,11 +125,11 @@ pub limit_small : (i : Instance) (best : Option FoundPlan) → IsInstance i → 
 limit_small i None w found = omega arith
 limit_small i (Some best) w found = omega (arith, delay_small i best.plan w found.settled.valid, found.delay_is)
 
-lower_goals : (high low : ℕ) → low ≤ high → (pieces : List Piece) → HaveGoals high pieces → HaveGoals low pieces
+pub lower_goals : (high low : ℕ) → low ≤ high → (pieces : List Piece) → HaveGoals high pieces → HaveGoals low pieces
 lower_goals high low le pieces goals =
     All-weaker (λ (q : Piece). HasGoal high q.node) (λ (q : Piece). HasGoal low q.node) (λ q. weaker_goal high low le q.node) pieces goals
 
-goal_is : (i : Instance) (aims : Aims) (best : Option FoundPlan) → worked_goal i aims.gap best ≤ aim_of i aims best
+pub goal_is : (i : Instance) (aims : Aims) (best : Option FoundPlan) → worked_goal i aims.gap best ≤ aim_of i aims best
 goal_is i aims None = omega (arith, goal_past i aims (i.cluster.horizon + 1) (omega arith))
 goal_is i aims (Some best) = omega (arith, goal_near i aims best.delay)
 
@@ -148,7 +153,7 @@ module _ (i : Instance) (options : Options) (aims : Aims) (why : Why) (best : Op
   proved = gathered_proves i (worked ++ closed) low cert is.right (omega (arith, low_small, gathered.bound)) gathered
 
   few : branches cert.tree ≤ options.budget
-  few = omega (arith, within_budget i aim low worked closed cert.tree gathered.tree is.leaves, is.within)
+  few = omega (arith, within_budget worked closed cert.tree gathered.tree (all_leaves i aim low closed is.leaves), is.within)
 
   goals_from : (bound : ℕ) → IsPathBound i bound → HaveGoals (min bound limit) (worked ++ closed)
   goals_from bound path =
@@ -161,9 +166,10 @@ module _ (i : Instance) (options : Options) (aims : Aims) (why : Why) (best : Op
 
   reason_is : (cause : Why) → IsWorkedOut options.budget worked cause → IsReason i options aims.gap best (in_answer i cert) cause
   reason_is Budget all = omega (arith, all_worked (worked_goal i aims.gap best) worked closed cert.tree gathered.tree near_goals, all)
-  reason_is Memory all = omega (arith, within_budget i aim low worked closed cert.tree gathered.tree is.leaves, all)
-  reason_is CalledOff all = omega (arith, within_budget i aim low worked closed cert.tree gathered.tree is.leaves, all)
+  reason_is Memory all = omega (arith, within_budget worked closed cert.tree gathered.tree (all_leaves i aim low closed is.leaves), all)
+  reason_is CalledOff all = omega (arith, within_budget worked closed cert.tree gathered.tree (all_leaves i aim low closed is.leaves), all)
   reason_is Gap all = absurd all
+  reason_is Part all = absurd all
 
   pub search_ends : IsEndTree i options aims.gap why best (in_answer i cert)
   search_ends = record {

@@ -11,18 +11,18 @@ use Rattle.certificate.specs.declared.version.Version.{Version}
 use Rattle.certificate.specs.declared.version.Version.TheVariants.{One, Two}
 use Rattle.certificate.specs.Trees.{Trees, preorder}
 use Rattle.certificate.specs.Cert.{Cert}
-use Rattle.dropped_decisions.specs.Proofs.{Proves}
-use Rattle.dropped_decisions.specs.Branches.{branches}
-use Rattle.search_workers.specs.Best.{IsPlanFound}
-use Rattle.search_workers.specs.declared.found.FoundPlan.{FoundPlan}
-use Rattle.search_workers.specs.declared.outcome.Options.{Options}
-use Rattle.search_workers.specs.declared.outcome.Outcome.{Outcome}
-use Rattle.search_workers.specs.declared.outcome.Outcome.TheVariants.{Optimal, Infeasible, Stopped}
-use Rattle.search_workers.specs.declared.outcome.Why.{Why}
-use Rattle.search_workers.specs.declared.outcome.Why.TheVariants.{Budget, Memory, CalledOff, Gap}
-use Rattle.search_workers.specs.Searching.{limit_of}
-use Rattle.search_workers.specs.Ends.{IsFar, IsNear}
-use Rattle.search_workers.specs.Gathering.{HasGoal}
+use Rattle.begun_search.specs.Proofs.{Proves}
+use Rattle.begun_search.specs.Branches.{branches}
+use Rattle.begun_search.specs.Best.{IsPlanFound}
+use Rattle.begun_search.specs.found.FoundPlan.{FoundPlan}
+use Rattle.begun_search.specs.outcome.Options.{Options}
+use Rattle.begun_search.specs.outcome.Outcome.{Outcome}
+use Rattle.begun_search.specs.outcome.Outcome.TheVariants.{Optimal, Infeasible, Stopped}
+use Rattle.begun_search.specs.outcome.Why.{Why}
+use Rattle.begun_search.specs.outcome.Why.TheVariants.{Budget, Memory, CalledOff, Gap, Part}
+use Rattle.begun_search.specs.Searching.{limit_of}
+use Rattle.begun_search.specs.Ends.{IsFar, IsNear}
+use Rattle.begun_search.specs.Gathering.{HasGoal}
 
 -- a leaf at the limit or past it
 abbrev pub is_closed_at : ℕ → Node → Bool
@@ -50,12 +50,13 @@ pub record IsLeastGoal (tree : Trees) (low : ℕ) : Type 0 where
   pub reached : leaf.goal ≡ low
   pub bound : All (HasGoal low) (preorder tree)
 
--- the cause of a stop: by the gap, where the best plan is within it; else by what was worked
+-- the cause of a stop: by the gap, where the best plan is within it; else by what was worked; a whole search never ends as a part
 abbrev pub IsCause : Instance → Options → (gap low : ℕ) → Option FoundPlan → Cert → Why → Type 0
 IsCause i options gap low best cert Budget = IsFar gap low best × (options.budget ≤ worked_at (worked_goal i gap best) cert.tree)
 IsCause i options gap low best cert Memory = IsFar gap low best × (branches cert.tree < options.budget)
 IsCause i options gap low best cert CalledOff = IsFar gap low best × (branches cert.tree < options.budget)
 IsCause i options gap low best cert Gap = IsNear gap low best
+IsCause i options gap low best cert Part = ⊥
 
 -- the search was stopped with a bound and the best plan found
 pub record IsStopped (i : Instance) (options : Options) (gap : ℕ) (why : Why) (low : ℕ) (best : Option FoundPlan) (cert : Cert) : Type 0 where

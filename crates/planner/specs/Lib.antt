@@ -3,7 +3,12 @@ pub mod Searched
 pub mod Closing
 pub mod Crew
 pub mod Held
-pub use Rattle.search_workers.specs.declared.found
-pub use Rattle.search_workers.specs.declared.outcome
-pub use Rattle.search_workers.specs.Ends
-pub use Rattle.search_workers.specs.Searching
+pub mod PartAnswers
+pub mod Onward
+pub use Rattle.begun_search.specs.Begun
+pub use Rattle.begun_search.specs.Proofs
+pub use Rattle.begun_search.specs.declared.parts
+pub use Rattle.begun_search.specs.found
+pub use Rattle.begun_search.specs.outcome
+pub use Rattle.begun_search.specs.Ends
+pub use Rattle.begun_search.specs.Searching

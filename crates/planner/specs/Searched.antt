@@ -7,20 +7,22 @@ use Rattle.certificate.specs.declared.node.Node.{Node}
 use Rattle.certificate.specs.declared.node.Node.TheVariants as node
 use Rattle.certificate.specs.Trees.{preorder}
 use Rattle.certificate.specs.Cert.{Cert}
-use Rattle.dropped_decisions.specs.Proofs.{Proves}
-use Rattle.dropped_decisions.specs.Branches.{branches}
-use Rattle.search_workers.specs.piece.Piece.{Piece}
-use Rattle.search_workers.specs.Pieces.{AreRight}
-use Rattle.search_workers.specs.Account.{IsWholeTree}
-use Rattle.search_workers.specs.declared.found.FoundPlan.{FoundPlan}
-use Rattle.search_workers.specs.declared.outcome.Options.{Options}
-use Rattle.search_workers.specs.declared.outcome.Why.{Why}
-use Rattle.search_workers.specs.declared.outcome.Why.TheVariants.{Budget, Memory, CalledOff, Gap}
-use Rattle.search_workers.specs.declared.aims.Aims.{Aims}
-use Rattle.search_workers.specs.Goals.{goal_of}
-use Rattle.search_workers.specs.Searching.{aim_of, limit_of, IsFound, IsWorkedOut}
-use Rattle.search_workers.specs.Gathering.{HasGoal, HaveGoals}
-use Rattle.planner.specs.Answers.{answer_version, worked_at, worked_goal}
+use Rattle.begun_search.specs.Proofs.{Proves}
+use Rattle.begun_search.specs.Branches.{branches}
+use Rattle.begun_search.specs.piece.Piece.{Piece}
+use Rattle.begun_search.specs.Pieces.{AreRight}
+use Rattle.begun_search.specs.Account.{IsWholeTree}
+use Rattle.begun_search.specs.found.FoundPlan.{FoundPlan}
+use Rattle.begun_search.specs.outcome.Options.{Options}
+use Rattle.begun_search.specs.outcome.Why.{Why}
+use Rattle.begun_search.specs.outcome.Outcome.{Outcome}
+use Rattle.begun_search.specs.outcome.Why.TheVariants.{Budget, Memory, CalledOff, Gap, Part}
+use Rattle.begun_search.specs.aims.Aims.{Aims}
+use Rattle.begun_search.specs.Goals.{goal_of}
+use Rattle.begun_search.specs.Searching.{aim_of, limit_of, IsFound, IsWorkedOut}
+use Rattle.begun_search.specs.Gathering.{HasGoal, HaveGoals}
+use Rattle.begun_search.specs.Ends.{IsAnswerOf, IsCauseTold}
+use Rattle.planner.specs.Answers.{answer_version, from_low, worked_at, worked_goal}
 
 -- a goal at which propagation closes the whole tree: at least the path bound, within one tick past the horizon
 abbrev pub IsFloor : Instance → ℕ → Type 0
@@ -78,6 +80,7 @@ IsReason i options gap best cert Budget = options.budget ≤ worked_at (worked_g
 IsReason i options gap best cert Memory = branches cert.tree < options.budget
 IsReason i options gap best cert CalledOff = branches cert.tree < options.budget
 IsReason i options gap best cert Gap = IsExhausted i gap best cert.low
+IsReason i options gap best cert Part = ⊥
 
 -- The tree of a search at its end, in the version of the instance's answers: it proves a bound of at most the delay that had to be beaten, and no leaf's
 -- goal is below the lesser of that and the path bound.
@@ -88,3 +91,12 @@ pub record IsEndTree (i : Instance) (options : Options) (gap : ℕ) (why : Why) 
   pub most : cert.low ≤ limit_of i best
   pub path : (bound : ℕ) → IsPathBound i bound → All (HasGoal (min bound (limit_of i best))) (preorder cert.tree)
   pub reason : IsReason i options gap best cert why
+
+-- What a certificate's tree says of the best plan, where a search ended for a reason: its bound is the least goal of its leaves, or the delay that had to be
+-- beaten where that is less.
+pub record IsEndAnswer (i : Instance) (gap : ℕ) (why : Why) (best : Option FoundPlan) (cert : Cert) (outcome : Outcome) : Type 0 where
+  pub low : ℕ
+  pub lowest : IsLowest (limit_of i best) (preorder cert.tree) low
+  pub cause : Why
+  pub told : IsCauseTold why gap low best cause
+  pub is : IsAnswerOf i cause best low (from_low low cert) outcome

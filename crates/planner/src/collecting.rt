@@ -1,46 +1,72 @@
-//! How do workers begin, and what is left of the tree once all have ended?
+//! How do workers begin, and what is left of their tasks once all have ended?
 
-ghost use Rattle.std.specs.Prelude.{◌≡◌, ◌≤◌, ◌+◌, [], ◌∷◌, ◌++◌, IfOk, OnOk, IsPermutation, length, vec_len, All};
+ghost use Rattle.std.specs.Prelude.{◌≡◌, ◌≤◌, ◌+◌, [], ◌∷◌, ◌++◌, IfOk, OnOk, IsPermutation, List, length, vec_len, All};
 ghost use Rattle.ttp_model.specs.Rules.{IsInstance};
-ghost use Rattle.search_workers.specs.Task.{root_task, IsTask};
+ghost use Rattle.begun_search.specs.Task.{root_task, Task, IsTask};
 ghost use Rattle.incumbent.specs.Watch.{offers, out_count, IsOpening};
-ghost use Rattle.steal_pool.specs.Hand.{all_pushed, all_taken, IsPool};
-ghost use Rattle.search_workers.specs.Searching.{limit_of, IsFound, IsSearching};
-ghost use Rattle.search_workers.specs.declared.aims.Aims.{Aims};
-ghost use Rattle.planner.specs.Crew.{budget_of, hands_of, told, AreDealt, AreReportsOf, HasLeft, HaveEnded, IsJob, IsNobody};
+ghost use Rattle.begun_search.specs.Hand.{all_pushed, all_taken, IsPool};
+ghost use Rattle.begun_search.specs.Searching.{limit_of, IsFound, IsSearchingOf, IsSomeSearch, SearchGoesOn};
+ghost use Rattle.begun_search.specs.aims.Aims.{Aims};
+ghost use Rattle.planner.specs.Crew.{budget_of, hands_of, told, AreDealt, AreReportsOf, HasLeft, HaveEnded, IsGiven, IsJob, IsNobody};
 
 use crate::crew::{Crew, run_all};
+use crate::joining::join;
 use crate::reserve::Reserve;
-use incumbent::{Incumbent, Watch};
-use search_workers::{
-    Course, FoundPlan, Gate, Job, Options, Report, Search, Site, SolveFault, Task,
+use begun_search::{
+    Course, FoundPlan, Gate, Hand, Job, Options, Piece, Report, Search, Searched, Site, SolveFault,
+    Task, drain, pool,
 };
+use incumbent::{Incumbent, Watch};
 use std::alloc::Global;
 use std::marker::{Send, Sync};
 use std::sync::Wait;
 use std::thread::Threads;
-use steal_pool::{Hand, Searched, drain, pool};
 use ttp_model::{Instance, MemoryFault};
 
-/// A pool whose first hand has the whole tree.
+/// The task of the whole tree.
+pub fn whole_tree(alloc: Global, instance: &Instance) -> Result<Vec<Task>, MemoryFault>
+    ensures root { IfOk result (λ tasks. tasks.items ≡ root_task ∷ []) }
+    ensures tasks { IfOk result (λ tasks. All (IsTask instance.now) tasks.items) }
+{
+    let root = Task::root(alloc, instance)?;
+    let tasks = vec![in alloc; root]?;
+    Ok(tasks)
+}
+
+/// Gives tasks to a hand, the last first, so that the first is worked first.
+fn give<J: Searched>(hand: &mut Hand<J>, tasks: Vec<Task>) -> Result<(), MemoryFault>
+    requires { All (IsTask J.instance) tasks.items }
+    ensures given { OnOk result (IsGiven tasks.items hand.old hand.new) }
+{
+    let mut left = tasks;
+    while let Some(task) = left.pop() {
+        if let Err((_, fault)) = hand.push(task) {
+            return Err(fault);
+        }
+    }
+    Ok(())
+}
+
+/// A pool whose first hand has these tasks.
 fn planted<J: Searched>(
     alloc: Global,
     instance: &Instance,
     workers: usize,
+    tasks: Vec<Task>,
 ) -> Result<Vec<Hand<J>>, MemoryFault>
     requires of { instance.now ≡ J.instance }
     requires some { 1 ≤ workers }
+    requires tasks { All (IsTask J.instance) tasks.items }
     ensures pool { IfOk result (λ hands. IsPool hands.items) }
-    ensures pushed { IfOk result (λ hands. IsPermutation (all_pushed hands.items) (root_task ∷ [])) }
+    ensures pushed { IfOk result (λ hands. IsPermutation (all_pushed hands.items) tasks.items) }
     ensures taken { IfOk result (λ hands. all_taken hands.items ≡ []) }
     ensures many { IfOk result (λ hands. vec_len hands ≡ workers) }
 {
     let mut hands = pool::<J>(alloc, instance, workers)?;
-    let root = Task::root(alloc, instance)?;
     let hand = &mut hands[0];
-    match hand.push(root) {
+    match give(hand, tasks) {
         Ok(()) => Ok(hands),
-        Err((_, fault)) => Err(fault),
+        Err(fault) => Err(fault),
     }
 }
 
@@ -155,11 +181,12 @@ fn drain_into<J: Searched>(hands: Vec<Hand<J>>, tasks: &mut Vec<Task>) -> Result
     Ok(())
 }
 
-/// What is left of the tree once all workers have ended: the tasks that they hold, and those in their deques.
+/// What is left of some tasks once all workers have ended: those that they hold, and those in their deques.
 fn collected<J: Searched>(word: Incumbent, crew: Crew<J>) -> Result<Search, MemoryFault>
-    requires ended { (aims : Aims) × HaveEnded J.instance aims word crew }
+    requires ended { (aims : Aims) × (given : List Task) × HaveEnded J.instance aims word given crew }
     requires instance { IsInstance J.instance }
-    ensures searching { IfOk result (λ s. (aims : Aims) → HaveEnded J.instance aims word crew → IsSearching J.instance aims s.pieces.items s.tasks.items s.best) }
+    ensures searching { IfOk result (λ s. (aims : Aims) (given : List Task) → HaveEnded J.instance aims word given crew
+        → IsSearchingOf J.instance aims given s.pieces.items s.tasks.items s.best) }
     ensures same { IfOk result (λ s. s.pieces ≡ crew.pieces) }
     ensures best { IfOk result (λ s. s.best ≡ crew.best) }
 {
@@ -202,23 +229,26 @@ fn reported<J: Searched + Send + Sync, G: Gate + Sync, R: Threads + Wait>(
     reports
 }
 
-/// Lets workers work the tree, and adds what they come to to a crew of nobody.
+/// Lets workers work tasks, and adds what they come to to a crew of nobody.
 fn crewed<J: Searched + Send + Sync, G: Gate + Sync, R: Threads + Wait>(
     rt: &R,
     site: &Site<'_, G>,
     word: &Incumbent,
     options: Options,
     course: Course,
+    tasks: Vec<Task>,
     crew: &mut Crew<J>,
 ) -> Result<(), SolveFault>
     requires of { site.now.instance.now ≡ J.instance }
     requires instance { IsInstance J.instance }
+    requires tasks { All (IsTask J.instance) tasks.items }
     requires nobody { IsNobody J.instance word.now crew.old }
-    ensures ended { OnOk result (HaveEnded J.instance course.aims word.now crew.new) }
+    ensures ended { OnOk result (HaveEnded J.instance course.aims word.now tasks.items crew.new) }
     ensures within { OnOk result (length crew.new.pieces.items ≤ options.budget) }
     ensures no_later { OnOk result (limit_of J.instance crew.new.best ≤ limit_of J.instance crew.old.best) }
 {
-    let hands = planted::<J>(site.alloc, site.instance, options.crew() as usize)?;
+    let workers = options.crew() as usize;
+    let hands = planted::<J>(site.alloc, site.instance, workers, tasks)?;
     let jobs = deal(site.alloc, word, &mut crew.watch, hands, options.budget)?;
     let reports = reported(rt, site, word, course, jobs)?;
     crew.add_all(word, reports)?;
@@ -243,17 +273,19 @@ fn begun<J: Searched>(
     Ok((word, crew))
 }
 
-/// What workers make of the tree in threads of their own, and what they leave of it.
+/// What workers make of tasks in threads of their own, and what they leave of them.
 pub fn searched<J: Searched + Send + Sync, G: Gate + Sync, R: Threads + Wait>(
     rt: &R,
     site: &Site<'_, G>,
     options: Options,
     course: Course,
+    tasks: Vec<Task>,
     first: Option<FoundPlan>,
 ) -> Result<Search, SolveFault>
     requires of { site.now.instance.now ≡ J.instance }
+    requires tasks { All (IsTask site.now.instance.now) tasks.items }
     requires found { IsFound site.now.instance.now first }
-    ensures searching { IfOk result (λ s. IsSearching site.now.instance.now course.aims s.pieces.items s.tasks.items s.best) }
+    ensures searching { IfOk result (λ s. IsSearchingOf site.now.instance.now course.aims tasks.items s.pieces.items s.tasks.items s.best) }
     ensures within { IfOk result (λ s. length s.pieces.items ≤ options.budget) }
     ensures no_later { IfOk result (λ s. limit_of site.now.instance.now s.best ≤ limit_of site.now.instance.now first) }
 {
@@ -262,7 +294,52 @@ pub fn searched<J: Searched + Send + Sync, G: Gate + Sync, R: Threads + Wait>(
     let _nodes = instance.nodes();
     let (word, crew) = begun::<J>(alloc, instance, options.crew() as usize, first)?;
     let mut crew = crew;
-    crewed(rt, site, &word, options, course, &mut crew)?;
+    crewed(rt, site, &word, options, course, tasks, &mut crew)?;
     let search = collected(word, crew)?;
+    Ok(search)
+}
+
+/// Room for as many pieces.
+fn room_beside(alloc: Global, pieces: &[Piece]) -> Result<Vec<Piece>, MemoryFault> {
+    let room = Vec::with_capacity(alloc, pieces.len())?;
+    Ok(room)
+}
+
+/// What was made of a search's open tasks comes in front of what was worked before them.
+fn worked_on(pieces: Vec<Piece>, made: Search) -> Result<Search, MemoryFault>
+    ensures pieces { IfOk result (λ s. s.pieces.items ≡ made.pieces.items ++ pieces.items) }
+    ensures tasks { IfOk result (λ s. s.tasks.items ≡ made.tasks.items) }
+    ensures best { IfOk result (λ s. s.best ≡ made.best) }
+{
+    let mut search = made;
+    join(&mut search.pieces, pieces)?;
+    Ok(search)
+}
+
+/// Lets workers work what is open of a search, in threads of their own. Memory for what was worked before is kept meanwhile, so that it can be put
+/// behind what they make also where theirs was refused.
+pub fn pooled<J: Searched + Send + Sync, G: Gate + Sync, R: Threads + Wait>(
+    rt: &R,
+    site: &Site<'_, G>,
+    options: Options,
+    course: Course,
+    search: Search,
+) -> Result<Search, SolveFault>
+    requires of { site.now.instance.now ≡ J.instance }
+    requires searching { IsSomeSearch site.now.instance.now course.aims search }
+    ensures searching { IfOk result (SearchGoesOn site.now.instance.now course.aims search) }
+    ensures within { IfOk result (λ s. length s.pieces.items ≤ options.budget + length search.pieces.items) }
+    ensures no_later { IfOk result (λ s. limit_of site.now.instance.now s.best ≤ limit_of site.now.instance.now search.best) }
+{
+    let Search {
+        pieces,
+        tasks,
+        best,
+        ..
+    } = search;
+    let kept = room_beside(site.alloc, pieces.as_slice())?;
+    let made = searched::<J, G, R>(rt, site, options, course, tasks, best)?;
+    drop(kept);
+    let search = worked_on(pieces, made)?;
     Ok(search)
 }

@@ -1,13 +1,13 @@
 //! What does the tree of a search at its end say?
 
 ghost use Rattle.std.specs.Prelude.{◌≡◌};
-ghost use Rattle.search_workers.specs.Searching.{IsFound};
-ghost use Rattle.search_workers.specs.declared.outcome.Why.TheVariants as causes;
-ghost use Rattle.planner.specs.Answers.{best_of, IsCalledOff, IsOutcome};
-ghost use Rattle.planner.specs.Searched.{IsEndTree, IsLowest};
+ghost use Rattle.begun_search.specs.Searching.{IsFound};
+ghost use Rattle.begun_search.specs.outcome.Why.TheVariants as causes;
+ghost use Rattle.planner.specs.Answers.{best_of, IsCalledOff};
+ghost use Rattle.planner.specs.Searched.{IsEndAnswer, IsLowest};
 
+use begun_search::{FoundPlan, Outcome, Why, answer, cause, limit};
 use certificate::{Cert, Node};
-use search_workers::{FoundPlan, Options, Outcome, Why, answer, cause, limit};
 use ttp_model::Instance;
 
 /// The lesser of a limit and the least goal of the leaves among nodes, in ticks.
@@ -24,19 +24,17 @@ fn lowest(nodes: &[Node], limit: u32) -> u32
     low
 }
 
-/// What the tree of a search at its end says of the best plan: its bound is the least goal of its leaves, or the delay that had to be beaten where that is
-/// less.
+/// What a certificate's tree says of the best plan, where a search ended for a reason: its bound is the least goal of its leaves, or the delay that had to be
+/// beaten where that is less.
 pub fn ended(
     instance: &Instance,
-    options: Options,
     gap: u32,
     why: Why,
     best: Option<FoundPlan>,
     cert: Cert,
 ) -> Outcome
-    requires found { IsFound instance.now best }
-    requires tree { IsEndTree instance.now options gap why best cert }
-    ensures answer { IsOutcome instance.now options gap result }
+    requires { IsFound instance.now best }
+    ensures answer { IsEndAnswer instance.now gap why best cert result }
     ensures best { best_of result ≡ best }
     ensures called_off { IsCalledOff result → why ≡ causes.CalledOff }
 {

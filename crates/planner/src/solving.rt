@@ -4,31 +4,31 @@ ghost use Rattle.std.specs.Prelude.{◌≡◌, ◌≤◌, ◌+◌, IfOk, IfErr, 
 ghost use Rattle.ttp_model.specs.Delays.{delay};
 ghost use Rattle.ttp_model.specs.Instance.{Instance};
 ghost use Rattle.ttp_model.specs.Plans.{IsValid};
-ghost use Rattle.search_workers.specs.Account.{IsWholeTree};
-ghost use Rattle.search_workers.specs.Task.{IsTask};
-ghost use Rattle.search_workers.specs.Gathering.{AreShallow, HaveGoals, IsGathered};
-ghost use Rattle.search_workers.specs.declared.outcome.SolveFault.TheVariants as fault;
-ghost use Rattle.search_workers.specs.declared.outcome.Why.TheVariants as causes;
+ghost use Rattle.begun_search.specs.Account.{IsWholeTree};
+ghost use Rattle.begun_search.specs.Task.{IsTask};
+ghost use Rattle.begun_search.specs.Gathering.{AreShallow, HaveGoals, IsGathered};
+ghost use Rattle.begun_search.specs.outcome.SolveFault.TheVariants as fault;
+ghost use Rattle.begun_search.specs.outcome.Why.TheVariants as causes;
 ghost use Rattle.planner.specs.Answers.{best_of, IsCalledOff, IsOutcome, Shows};
 ghost use Rattle.planner.specs.Closing.{AreClosedBehind, IsClosedTree};
 ghost use Rattle.planner.specs.Crew.{workers_part};
 ghost use Rattle.planner.specs.Searched.{AreAims};
-ghost use Rattle.search_workers.specs.Searching.{aim_of, limit_of, IsFound, IsWorkedOut, IsSearching};
+ghost use Rattle.begun_search.specs.Searching.{aim_of, limit_of, IsFound, IsWorkedOut, IsSearching};
 
 use crate::aiming::course_of;
 use crate::closing::close_all;
-use crate::collecting::searched;
+use crate::collecting::{searched, whole_tree};
 use crate::end_tree::ended;
 use crate::joining::join;
 use crate::leaner::{lean_proof, leaner};
 use crate::reserve::Reserve;
 use crate::versions::answer_version;
-use certificate::{Cert, Node};
-use good_plan::good_plan;
-use search_workers::{
+use begun_search::{
     Aims, Course, FoundPlan, FreeGate, Gate, Manner, Options, Outcome, Piece, Search, Site,
     SolveFault, Task, Team, Why, aim, better, gather_whole, root_bound,
 };
+use certificate::{Cert, Node};
+use good_plan::good_plan;
 use std::alloc::Global;
 use std::marker::{Brand, Sync};
 use std::sync::Wait;
@@ -84,7 +84,7 @@ fn known_plan(
 }
 
 /// The better of a plan that is known and of one that is looked for at once, where there is one.
-fn begun_with<R: Threads + Sync, G: Gate>(
+pub fn begun_with<R: Threads + Sync, G: Gate>(
     rt: &R,
     site: &Site<'_, G>,
     options: Options,
@@ -102,7 +102,7 @@ fn begun_with<R: Threads + Sync, G: Gate>(
 }
 
 /// Tells a gate of a plan, where there is one.
-fn tell<G: Gate>(site: &Site<'_, G>, best: &Option<FoundPlan>)
+pub fn tell<G: Gate>(site: &Site<'_, G>, best: &Option<FoundPlan>)
     requires { IsFound site.now.instance.now best.now }
     ensures { IfSome best.now (λ best. G.heard site.now.gate.now site.now.instance.now best) }
 {
@@ -113,7 +113,7 @@ fn tell<G: Gate>(site: &Site<'_, G>, best: &Option<FoundPlan>)
 
 /// Closes tasks at goals of at most `top` ticks, and puts what closes them behind pieces, in no more room than all take: what is left
 /// of it is free. The least of `top` and the leaves' goals.
-fn close_behind(
+pub fn close_behind(
     alloc: Global,
     instance: &Instance,
     pieces: &mut Vec<Piece>,
@@ -130,7 +130,7 @@ fn close_behind(
 }
 
 /// The certificate of a whole tree, in a list that may have room for its nodes.
-fn certified(room: Vec<Node>, pieces: Vec<Piece>, low: u32) -> Result<Cert, SolveFault>
+pub fn certified(room: Vec<Node>, pieces: Vec<Piece>, low: u32) -> Result<Cert, SolveFault>
     requires shallow { AreShallow pieces.items }
     requires whole { IsWholeTree pieces.items [] }
     requires goals { HaveGoals low pieces.items }
@@ -191,12 +191,12 @@ fn concluded(
     } = search;
     let cert = closed_tree(alloc, instance, aims, room, pieces, tasks, &best)?;
     let cert = cert.with_version(answer_version(instance));
-    Ok(ended(instance, options, aims.gap, why, best, cert))
+    Ok(ended(instance, aims.gap, why, best, cert))
 }
 
 /// What of a budget the workers have: in a search that isn't plain the last quarter is for the bound. Another share
 /// wasn't measured.
-fn workers_part(budget: u64, manner: Manner) -> u64
+pub fn workers_part(budget: u64, manner: Manner) -> u64
     ensures part { result ≡ workers_part manner budget }
     ensures most { result ≤ budget }
 {
@@ -206,18 +206,51 @@ fn workers_part(budget: u64, manner: Manner) -> u64
     }
 }
 
-/// Works what workers left of a tree, and tells what it shows.
+/// Closes what a search left that ended for this reason, and tells what its tree shows, by a lean one where the search isn't plain. The gate is told of
+/// the best plan first.
+pub fn finished<G: Gate>(
+    site: &Site<'_, G>,
+    options: Options,
+    course: Course,
+    search: Search,
+    why: Why,
+) -> Result<Outcome, SolveFault>
+    requires searching { IsSearching site.now.instance.now course.aims search.pieces.items search.tasks.items search.best }
+    requires aims { AreAims site.now.instance.now course.aims }
+    requires within { length search.pieces.items ≤ options.budget }
+    requires cause { IsWorkedOut options.budget search.pieces.items why }
+    ensures answer { IfOk result (IsOutcome site.now.instance.now options course.aims.gap) }
+    ensures shows { IfOk result (Shows site.now.instance.now) }
+    ensures called_off { IfOk result (λ outcome. IsCalledOff outcome → why ≡ causes.CalledOff) }
+    ensures told { IfOk result (λ outcome. IfSome (best_of outcome) (λ best. G.heard site.now.gate.now site.now.instance.now best)) }
+    ensures best { IfOk result (λ outcome. best_of outcome ≡ search.best) }
+    ensures err { IfErr result (λ e. e ≡ fault.Memory) }
+{
+    let alloc = site.alloc;
+    let instance = site.instance;
+    let _nodes = instance.nodes();
+    tell(site, &search.best);
+    let outcome = concluded(alloc, instance, options, course.aims, search, why)?;
+    match course.manner {
+        Manner::Plain => Ok(outcome),
+        Manner::Sparing => Ok(leaner(alloc, instance, outcome)),
+    }
+}
+
+/// Works what workers left of a tree, the newest first until `part` pieces are made, and tells what it shows.
 fn worked_out<R: Threads + Sync, G: Gate + Sync>(
     rt: &R,
     site: &Site<'_, G>,
     options: Options,
+    part: u64,
     course: Course,
     search: Search,
     reserve: Reserve,
 ) -> Result<Outcome, SolveFault>
     requires searching { IsSearching site.now.instance.now course.aims search.pieces.items search.tasks.items search.best }
     requires aims { AreAims site.now.instance.now course.aims }
-    requires within { length search.pieces.items ≤ workers_part course.manner options.budget }
+    requires within { length search.pieces.items ≤ part }
+    requires part { part ≤ options.budget }
     ensures answer { IfOk result (IsOutcome site.now.instance.now options course.aims.gap) }
     ensures shows { IfOk result (Shows site.now.instance.now) }
     ensures called_off { IfOk result (λ outcome. IsCalledOff outcome → G.ends site.now.gate.now) }
@@ -225,23 +258,67 @@ fn worked_out<R: Threads + Sync, G: Gate + Sync>(
     ensures no_later { IfOk result (λ outcome. limit_of site.now.instance.now (best_of outcome) ≤ limit_of site.now.instance.now search.best) }
     ensures err { IfErr result (λ e. e ≡ fault.Memory) }
 {
-    let alloc = site.alloc;
-    let instance = site.instance;
-    let _nodes = instance.nodes();
     let mut search = search;
-    let budget = options.budget;
-    let part = workers_part(budget, course.manner);
     let team = Team {
         rt,
         threads: options.crew(),
     };
-    let why = search.go(&team, site, part, budget, course.aims);
+    let why = search.go(&team, site, part, options.budget, course.aims);
     reserve.give_back();
-    tell(site, &search.best);
-    let outcome = concluded(alloc, instance, options, course.aims, search, why)?;
-    match course.manner {
-        Manner::Plain => Ok(outcome),
-        Manner::Sparing => Ok(leaner(alloc, instance, outcome)),
+    finished(site, options, course, search, why)
+}
+
+/// What a search shows by a lean certificate, where what it left needn't be worked; else the search.
+pub fn by_lean_proof<G: Gate>(
+    site: &Site<'_, G>,
+    options: Options,
+    course: Course,
+    search: Search,
+) -> Result<Outcome, Search>
+    requires searching { IsSearching site.now.instance.now course.aims search.pieces.items search.tasks.items search.best }
+    requires aims { AreAims site.now.instance.now course.aims }
+    requires within { length search.pieces.items ≤ options.budget }
+    ensures answer { IfOk result (IsOutcome site.now.instance.now options course.aims.gap) }
+    ensures shows { IfOk result (Shows site.now.instance.now) }
+    ensures called_off { IfOk result (λ outcome. ¬ IsCalledOff outcome) }
+    ensures told { IfOk result (λ outcome. IfSome (best_of outcome) (λ best. G.heard site.now.gate.now site.now.instance.now best)) }
+    ensures best { IfOk result (λ outcome. best_of outcome ≡ search.best) }
+    ensures err { IfErr result (λ back. back ≡ search) }
+{
+    let _nodes = site.instance.nodes();
+    match lean_proof(site.alloc, site.instance, options, course, &search) {
+        Some(cert) => {
+            tell(site, &search.best);
+            let gap = course.aims.gap;
+            Ok(ended(site.instance, gap, Why::Gap, search.best, cert))
+        }
+        None => Err(search),
+    }
+}
+
+/// What a search shows that workers have ended: by a lean certificate, where what they left needn't be worked, else once that is worked.
+pub(crate) fn brought_out<R: Threads + Sync, G: Gate + Sync>(
+    rt: &R,
+    site: &Site<'_, G>,
+    options: Options,
+    part: u64,
+    course: Course,
+    search: Search,
+    reserve: Reserve,
+) -> Result<Outcome, SolveFault>
+    requires searching { IsSearching site.now.instance.now course.aims search.pieces.items search.tasks.items search.best }
+    requires aims { AreAims site.now.instance.now course.aims }
+    requires within { length search.pieces.items ≤ part }
+    requires part { part ≤ options.budget }
+    ensures answer { IfOk result (IsOutcome site.now.instance.now options course.aims.gap) }
+    ensures shows { IfOk result (Shows site.now.instance.now) }
+    ensures called_off { IfOk result (λ outcome. IsCalledOff outcome → G.ends site.now.gate.now) }
+    ensures told { IfOk result (λ outcome. IfSome (best_of outcome) (λ best. G.heard site.now.gate.now site.now.instance.now best)) }
+    ensures no_later { IfOk result (λ outcome. limit_of site.now.instance.now (best_of outcome) ≤ limit_of site.now.instance.now search.best) }
+{
+    match by_lean_proof(site, options, course, search) {
+        Ok(outcome) => Ok(outcome),
+        Err(search) => worked_out(rt, site, options, part, course, search, reserve),
     }
 }
 
@@ -274,14 +351,9 @@ pub fn solve_towards<R: Threads + Wait + Sync, G: Gate + Sync>(
         budget: part,
         ..options
     };
-    let search = searched::<Brand, G, R>(rt, site, theirs, course, first)?;
-    match lean_proof(alloc, instance, options, course, &search) {
-        Some(cert) => {
-            tell(site, &search.best);
-            Ok(ended(instance, options, gap, Why::Gap, search.best, cert))
-        }
-        None => worked_out(rt, site, options, course, search, reserve),
-    }
+    let tasks = whole_tree(alloc, instance)?;
+    let search = searched::<Brand, G, R>(rt, site, theirs, course, tasks, first)?;
+    brought_out(rt, site, options, part, course, search, reserve)
 }
 
 /// Searches for the shortest plan of an instance, as `solve` does, and calls a gate as workers go on: `start` once for each,

@@ -1,2 +1,1 @@
-pub mod FirstKeys
 pub mod Again

@@ -1,6 +1,6 @@
 -- What is at fault in the tables of a text of several rates, and where. Own profile.
-use Rattle.std.specs.Prelude.{◌≡◌, ℕ, List, map, Option, None, Some, option_map, if◌then◌else◌}
-use Rattle.toml.specs.Data.{Members, no_members, member}
+use Rattle.std.specs.Prelude.{◌≡◌, ℕ, List, map, Option, option_map}
+use Rattle.toml.specs.Data.{Members}
 use Rattle.instance_text.specs.declared.error.Key.{Key}
 use Rattle.instance_text.specs.declared.error.Key.TheVariants as list
 use Rattle.instance_text.specs.Keys as text
@@ -14,7 +14,7 @@ use Rattle.instance_reasons.specs.declared.texts.WrongKind.{WrongKind as KindRea
 use Rattle.instance_reasons.specs.Near.{nearest}
 use Rattle.instance_reasons.specs.NearNames.{AreNear}
 use Rattle.instance_reasons.specs.Tables.{and_then, names_under}
-use Rattle.instance_reasons.specs.Unknown.{is_known, unknown_name}
+use Rattle.instance_reasons.specs.Unknown.{first_unknown, is_known, unknown_name}
 use Rattle.instance_reasons.specs.Values.{found_of, unfit_of}
 use Rattle.rates_text.specs.declared.error.RatesKey.{RatesKey}
 use Rattle.rates_text.specs.declared.error.RatesTable.{RatesTable}
@@ -28,14 +28,9 @@ use Rattle.rates_reasons.specs.Spots.{IsRatesTextSpot}
 use Rattle.rates_reasons.specs.Tables.{table_at, value_at}
 use Rattle.rates_reasons.specs.Wanted.{wanted}
 
--- the first key of a table that isn't one of these: a table's keys stand in byte order
-abbrev pub first_unknown : List RatesKey → Members → Option (List ℕ)
-first_unknown keys no_members = None
-first_unknown keys (member text d ms) = if has_key keys text then first_unknown keys ms else Some text
-
--- that of the table at a place
+-- the first key of the table at a place that can't stand there
 abbrev pub unknown_key : RatesTable → Members → Option (List ℕ)
-unknown_key place ms = and_then (table_at place ms) (first_unknown (keys_at place))
+unknown_key place ms = and_then (table_at place ms) (first_unknown (has_key (keys_at place)))
 
 -- the list whose entries are named at a place: a process names its node, and all else processes
 abbrev pub list_named_at : RatesTable → Key

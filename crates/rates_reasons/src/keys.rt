@@ -2,8 +2,10 @@
 
 ghost use Rattle.std.specs.Prelude.{◌≡◌, IfOk, map, option_map};
 ghost use Rattle.toml.specs.View.{table_view};
+ghost use Rattle.instance_reasons.specs.Unknown.{first_unknown};
 ghost use Rattle.rates_text.specs.Keys.{text_of};
-ghost use Rattle.rates_reasons.specs.Texts.{first_unknown, unknown_key};
+ghost use Rattle.rates_text.specs.Tables.{has_key};
+ghost use Rattle.rates_reasons.specs.Texts.{unknown_key};
 
 use crate::tables::table_at;
 use rates_text::{RatesKey, RatesTable, has_key, keys_at};
@@ -12,7 +14,7 @@ use toml::Table;
 
 /// The first key of a table, in byte order, that isn't one of these.
 fn first_unknown<'a>(table: &'a Table, keys: &[RatesKey]) -> Option<&'a str>
-    ensures { option_map (λ s. s.now) result ≡ first_unknown keys.now (table_view table.now) }
+    ensures { option_map (λ s. s.now) result ≡ first_unknown (has_key keys.now) (table_view table.now) }
 {
     for text in table.keys() {
         if !has_key(keys, text.as_str()) {

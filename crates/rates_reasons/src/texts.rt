@@ -1,14 +1,7 @@
 //! Why does the table of a text state no cluster of several rates?
 
-ghost use Rattle.std.specs.Prelude.{◌≡◌, IfOk, map, option_map};
+ghost use Rattle.std.specs.Prelude.{◌≡◌, IfOk};
 ghost use Rattle.toml.specs.View.{table_view};
-ghost use Rattle.rates_text.specs.Keys.{text_of};
-ghost use Rattle.rates_text.specs.Tables.{keys_at};
-ghost use Rattle.instance_reasons.specs.Near.{nearest};
-ghost use Rattle.instance_reasons.specs.Tables.{and_then};
-ghost use Rattle.instance_reasons.specs.Unknown.{is_known, unknown_name};
-ghost use Rattle.instance_reasons.specs.Values.{found_of, unfit_of};
-ghost use Rattle.rates_reasons.specs.Tables.{value_at};
 ghost use Rattle.rates_reasons.specs.Texts.{IsOddKey, IsOddName, IsOfTable, IsRatesTextReason, IsUnfitNumber, IsWrongKind, list_named_at};
 
 use crate::keys::{key_names, unknown_key};
@@ -16,48 +9,26 @@ use crate::spots::text_spot;
 use crate::tables::value_at;
 use crate::wanted::wanted;
 use instance_reasons::{
-    Found, Known, MissingKey, OddKey, OddName, Shape, TextReason, UnfitNumber, WrongKind, found_of,
-    names_under, near_of, nearest, unfit_of, unknown_name,
+    MissingKey, OddKey, OddName, TextReason, UnfitNumber, WrongKind, found_at, name_of_none,
+    names_under, near_key, near_of, number_at,
 };
 use instance_text::Key;
 use rates_text::{RatesKey, RatesTable, RatesTextError, keys_at};
 use std::alloc::{AllocError, Global};
 use toml::Table;
 
-/// The key that is nearest to another one, of those that can stand at a place.
-fn near_key(
-    alloc: Global,
-    place: RatesTable,
-    key: Option<&str>,
-) -> Result<Option<&'static str>, AllocError>
-    ensures { IfOk result (λ near. option_map (λ s. s.now) near
-        ≡ and_then (option_map (λ s. s.now) key.entry) (λ word. nearest word (map text_of (keys_at place)))) }
-{
-    let Some(word) = key else {
-        return Ok(None);
-    };
-    let names = key_names(alloc, keys_at(place))?;
-    nearest(alloc, word, names.as_slice())
-}
-
 /// Why a key at a place is refused.
 fn odd_key<'a>(alloc: Global, table: &'a Table, place: RatesTable) -> Result<OddKey<'a>, AllocError>
     ensures { IfOk result (IsOddKey (table_view table.now) place) }
 {
     let key = unknown_key(table, place);
-    let near = near_key(alloc, place, key)?;
+    let keys = key_names(alloc, keys_at(place))?;
+    let near = near_key(alloc, key, keys.as_slice())?;
     Ok(OddKey {
         spot: text_spot(table, place),
         key,
         near,
     })
-}
-
-/// What stands at a key in place of what has to.
-fn found_at(table: &Table, place: RatesTable, key: RatesKey, wanted: Shape) -> Option<Found>
-    ensures { result ≡ option_map (found_of wanted) (value_at place key (table_view table.now)) }
-{
-    Some(found_of(wanted, value_at(table, place, key)?))
 }
 
 /// Why the kind of the value at a key is refused.
@@ -68,16 +39,9 @@ fn wrong_kind<'a>(table: &'a Table, place: RatesTable, key: RatesKey) -> WrongKi
     WrongKind {
         spot: text_spot(table, place),
         key: key.text(),
-        found: found_at(table, place, key, wanted),
+        found: found_at(value_at(table, place, key), wanted),
         wanted,
     }
-}
-
-/// The number at fault at a key.
-fn number_at(table: &Table, place: RatesTable, key: RatesKey) -> Option<i64>
-    ensures { result ≡ and_then (value_at place key (table_view table.now)) unfit_of }
-{
-    unfit_of(value_at(table, place, key)?)
 }
 
 /// Why the number at a key is refused.
@@ -87,7 +51,7 @@ fn unfit_number<'a>(table: &'a Table, place: RatesTable, key: RatesKey) -> Unfit
     UnfitNumber {
         spot: text_spot(table, place),
         key: key.text(),
-        number: number_at(table, place, key),
+        number: number_at(value_at(table, place, key)),
     }
 }
 
@@ -101,24 +65,6 @@ fn list_named_at(place: RatesTable) -> Key
     }
 }
 
-/// What is named at a key and isn't one of these names.
-fn name_of_none<'a>(
-    alloc: Global,
-    table: &'a Table,
-    place: RatesTable,
-    key: RatesKey,
-    names: &[&str],
-) -> Result<Option<&'a str>, AllocError>
-    ensures { IfOk result (λ found. option_map (λ s. s.now) found
-        ≡ and_then (value_at place key (table_view table.now)) (unknown_name (is_known (map (λ s. s.now) names.now)))) }
-{
-    let Some(value) = value_at(table, place, key) else {
-        return Ok(None);
-    };
-    let known = Known::of(alloc, names)?;
-    Ok(unknown_name(&known, value))
-}
-
 /// Why a name at a key is refused. Takes memory for the names of the list.
 fn odd_name<'a>(
     alloc: Global,
@@ -130,7 +76,7 @@ fn odd_name<'a>(
 {
     let list = list_named_at(place);
     let names = names_under(alloc, table, list)?;
-    let name = name_of_none(alloc, table, place, key, names.as_slice())?;
+    let name = name_of_none(alloc, value_at(table, place, key), names.as_slice())?;
     let near = near_of(alloc, name, names.as_slice())?;
     Ok(OddName {
         spot: text_spot(table, place),

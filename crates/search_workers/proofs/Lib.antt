@@ -10,8 +10,11 @@ pub mod Searching
 pub use Rattle.branch_tree.proofs.ChildTasks
 pub use Rattle.branch_tree.proofs.Chosen
 pub use Rattle.branch_tree.proofs.OneChoice
+pub use Rattle.branch_tree.proofs.Splits
 pub use Rattle.search_trees.proofs.Existence
 pub use Rattle.search_trees.proofs.Has
 pub use Rattle.search_trees.proofs.Leaves
 pub use Rattle.search_trees.proofs.Proving
 pub use Rattle.search_trees.proofs.Whole
+pub use Rattle.steal_pool.proofs.Orders
+pub use Rattle.steal_pool.proofs.Pools

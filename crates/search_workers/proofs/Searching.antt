@@ -19,7 +19,8 @@ use Rattle.search_workers.specs.declared.aims.Aims.{Aims}
 use Rattle.search_workers.specs.declared.found.FoundPlan.{FoundPlan}
 use Rattle.search_workers.specs.Goals.{goals_at}
 use Rattle.search_workers.specs.Tasks.{Turn, IsTurn, tasks_of, pieces_of, born, all_born}
-use Rattle.search_workers.specs.Searching.{aim_of, limit_of, IsBetter, IsFound, IsSearchingOf}
+use Rattle.search_workers.specs.declared.search.Search.{Search}
+use Rattle.search_workers.specs.Searching.{aim_of, limit_of, IsBetter, IsFound, IsSearchingOf, IsSomeSearch, SearchGoesOn}
 use Rattle.search_workers.proofs.Goals.{goal_below, goal_rises}
 use Rattle.search_trees.specs.Gathering.{HasGoal}
 
@@ -101,6 +102,12 @@ in_any_order i aims roots made tasks others best moved s = record {
   found = s.found;
 }
 
+-- also beside others that are left aside
+pub beside_any_order : (i : Instance) (aims : Aims) (roots aside : List Task) (made : List Piece) (tasks others : List Task) (best : Option FoundPlan)
+    → IsPermutation tasks others → IsSearchingOf i aims roots made (aside ++ tasks) best → IsSearchingOf i aims roots made (aside ++ others) best
+beside_any_order i aims roots aside made tasks others best moved s =
+    in_any_order i aims roots made (aside ++ tasks) (aside ++ others) best (IsPermutation-append_right aside tasks others moved) s
+
 -- the second and the third of four lists change places
 pub interleave : {X : Type 0} (a b c d : List X) → IsPermutation ((a ++ b) ++ (c ++ d)) ((a ++ c) ++ (b ++ d))
 interleave a b c d =
@@ -148,6 +155,17 @@ roots_are i aims roots made tasks best s =
     let worked = All-map (IsTask i) (λ (turn : Turn). turn.task) s.turns (All-weaker (IsTurn i) (λ (turn : Turn). IsTask i turn.task) (λ turn is. is.of) s.turns s.each) in
     let all = All-append (IsTask i) (tasks_of s.turns) tasks worked s.open_tasks in
     front_all (IsTask i) roots (all_born i s.turns) (All-permutation (IsTask i) (tasks_of s.turns ++ tasks) (roots ++ all_born i s.turns) s.account all)
+
+-- what a search has to work are tasks of the instance
+pub own_tasks : (i : Instance) (aims : Aims) (search : Search) → IsSomeSearch i aims search → All (IsTask i) search.tasks.items
+own_tasks i aims search s = back_all (IsTask i) s.1 search.tasks.items s.2.open_tasks
+
+-- a search that goes on is one still
+pub goes_some : (i : Instance) (aims : Aims) (old new : Search) → IsSomeSearch i aims old → SearchGoesOn i aims old new → IsSomeSearch i aims new
+goes_some i aims old new s goes = (s.0, s.1, goes s.0 s.1 s.2)
+
+pub goes_then : (i : Instance) (aims : Aims) (old mid new : Search) → SearchGoesOn i aims old mid → SearchGoesOn i aims mid new → SearchGoesOn i aims old new
+goes_then i aims old mid new first then = λ roots aside s. then roots aside (first roots aside s)
 
 lower_goals : (i : Instance) (aims : Aims) (best old : Option FoundPlan) (made : List Piece) → limit_of i best ≤ limit_of i old
     → All (λ (q : Piece). HasGoal (aim_of i aims old) q.node) made → All (λ (q : Piece). HasGoal (aim_of i aims best) q.node) made

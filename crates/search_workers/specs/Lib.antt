@@ -17,4 +17,8 @@ pub use Rattle.branch_tree.specs.Workbench
 pub use Rattle.branch_tree.specs.piece
 pub use Rattle.search_trees.specs.Gathering
 pub use Rattle.search_trees.specs.Trees
+pub use Rattle.steal_pool.specs.Door
+pub use Rattle.steal_pool.specs.Drained
+pub use Rattle.steal_pool.specs.Hand
+pub use Rattle.steal_pool.specs.declared.hand
 pub use Rattle.used_decisions.specs.declared.manner

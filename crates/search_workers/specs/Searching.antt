@@ -12,7 +12,7 @@ use Rattle.search_workers.specs.Goals.{goal_of}
 use Rattle.search_workers.specs.Tasks.{Turn, IsTurn, tasks_of, pieces_of, all_born}
 use Rattle.search_trees.specs.Gathering.{HaveGoals}
 use Rattle.search_workers.specs.declared.outcome.Why.{Why}
-use Rattle.search_workers.specs.declared.outcome.Why.TheVariants.{Budget, Memory, CalledOff, Gap}
+use Rattle.search_workers.specs.declared.outcome.Why.TheVariants.{Budget, Memory, CalledOff, Gap, Part}
 
 -- the delay that the search had to beat: that of the best plan found, or one tick past the horizon
 abbrev pub limit_of : Instance → Option FoundPlan → ℕ
@@ -46,22 +46,25 @@ pub record IsSearchingOf (i : Instance) (aims : Aims) (roots : List Task) (made 
 abbrev pub IsSearching : Instance → Aims → List Piece → List Task → Option FoundPlan → Type 0
 IsSearching i aims made tasks best = IsSearchingOf i aims (root_task ∷ []) made tasks best
 
--- a search of some tasks
+-- a search of some tasks, of which some may be left aside: these it doesn't know
 abbrev pub IsSomeSearch : Instance → Aims → Search → Type 0
-IsSomeSearch i aims search = (roots : List Task) × IsSearchingOf i aims roots search.pieces.items search.tasks.items search.best
+IsSomeSearch i aims search = (roots : List Task) × (aside : List Task)
+    × IsSearchingOf i aims roots search.pieces.items (aside ++ search.tasks.items) search.best
 
--- with whatever the search began, it goes on
+-- with whatever the search began, and whatever is left aside, it goes on
 abbrev pub SearchGoesOn : Instance → Aims → Search → Search → Type 0
-SearchGoesOn i aims old new = (roots : List Task)
-    → IsSearchingOf i aims roots old.pieces.items old.tasks.items old.best → IsSearchingOf i aims roots new.pieces.items new.tasks.items new.best
+SearchGoesOn i aims old new = (roots aside : List Task)
+    → IsSearchingOf i aims roots old.pieces.items (aside ++ old.tasks.items) old.best
+    → IsSearchingOf i aims roots new.pieces.items (aside ++ new.tasks.items) new.best
 
 -- how many were worked: as many as the budget allows where it was the cause, and fewer where memory was, or the search was called off; no turn ends
--- by the gap
+-- by the gap, nor since it was only of a part
 abbrev pub IsWorkedOut : ℕ → List Piece → Why → Type 0
 IsWorkedOut budget worked Budget = length worked ≡ budget
 IsWorkedOut budget worked Memory = length worked < budget
 IsWorkedOut budget worked CalledOff = length worked < budget
 IsWorkedOut budget worked Gap = ⊥
+IsWorkedOut budget worked Part = ⊥
 
 -- why turns ended before so many were worked: memory was refused, or they were called off
 abbrev pub IsCutShort : ℕ → List Piece → Why → Type 0
@@ -69,6 +72,7 @@ IsCutShort most worked Memory = length worked < most
 IsCutShort most worked CalledOff = length worked < most
 IsCutShort most worked Budget = ⊥
 IsCutShort most worked Gap = ⊥
+IsCutShort most worked Part = ⊥
 
 -- the better of two plans that may have been found
 pub record IsBetter (i : Instance) (a b best : Option FoundPlan) : Type 0 where

@@ -7,6 +7,7 @@ mod found;
 mod gate;
 mod job;
 mod laws;
+mod level;
 mod outcome;
 mod report;
 mod rising;
@@ -33,9 +34,10 @@ pub use report::{Ending, Report, Rest};
 pub use rounds::Team;
 pub use search::{Search, aim, limit};
 pub use search_trees::{
-    GatherFault, gather, gather_whole, gathered_certificates_have_texts, leaves_close_a_tree,
-    names_make_one_tree, whole_trees_prove,
+    GatherFault, child_tasks, gather, gather_whole, gathered_certificates_have_texts,
+    leaves_close_a_tree, names_make_one_tree, whole_trees_prove,
 };
 pub use site::{Course, Site};
+pub use steal_pool::{Hand, Searched, drain, pool};
 pub use used_decisions::{Manner, usual_manner};
 pub use worker::{run_worker, run_worker_in};

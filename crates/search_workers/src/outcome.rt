@@ -41,6 +41,8 @@ pub enum Why {
     CalledOff,
     /// The best plan takes at most so many ticks more than the bound as the gap allows.
     Gap,
+    /// All that a part of a search was to work is done, and what others are to work is open.
+    Part,
 }
 
 /// What a search found. Delays and bounds are in ticks; each answer has a certificate that shows it.

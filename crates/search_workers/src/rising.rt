@@ -5,6 +5,7 @@ ghost use Rattle.ttp_model.specs.Instance.{Instance};
 ghost use Rattle.search_workers.specs.Task.{IsTask};
 ghost use Rattle.search_workers.specs.Workbench.{IsWorkbenchOf};
 
+use crate::level::Level;
 use crate::site::Site;
 use crate::{Gate, Task, Workbench, is_closed_below, root_bound};
 use std::alloc::Global;
@@ -25,6 +26,8 @@ pub enum Order {
     /// The newest that propagation doesn't close at a goal above the bound of the whole tree; once it closes all there the goal rises,
     /// and so does the bound.
     Rising,
+    /// One with the fewest branches above it.
+    Widest,
 }
 
 /// From which bound of the whole tree to which delay that has to be beaten the goal rises, in ticks, and to which step it has come.
@@ -68,6 +71,8 @@ impl Slope {
 #[derive(Drop)]
 pub struct Rising<'a> {
     bench: Workbench<'a>,
+    /// Where the one with the fewest branches above it is looked for, if it is that which is to be next.
+    level: Option<Level>,
     slope: Slope,
     /// For each task the last step at which propagation closed it; 0 where it closed it at none.
     closed: Vec<u32>,
@@ -81,14 +86,17 @@ impl<'a> Rising<'a> {
     pub fn new(alloc: Global, instance: &'a Instance, order: Order, most: u32, turns: u64) -> Self
         ensures { IsWorkbenchOf instance.now result.bench }
     {
-        let (slope, tries) = match order {
-            Order::Newest => (Slope::flat(most), 0),
-            Order::Rising => (
-                Slope::from_root(alloc, instance, most),
-                turns.saturating_mul(TRIES),
-            ),
-        };
-        Rising::at(alloc, slope, tries)
+        match order {
+            Order::Newest => Rising::at(alloc, Slope::flat(most), 0),
+            Order::Rising => {
+                let slope = Slope::from_root(alloc, instance, most);
+                Rising::at(alloc, slope, turns.saturating_mul(TRIES))
+            }
+            Order::Widest => Rising {
+                level: Some(Level::top()),
+                ..Rising::at(alloc, Slope::flat(most), 0)
+            },
+        }
     }
 
     /// At the step to which the goal has come, where nothing is known of tasks, and so many may be tried.
@@ -97,6 +105,7 @@ impl<'a> Rising<'a> {
     {
         Rising {
             bench: Workbench::new(),
+            level: None,
             slope,
             closed: Vec::new(alloc),
             tries,
@@ -191,8 +200,8 @@ impl<'a> Rising<'a> {
         Ok(None)
     }
 
-    /// The place of the task that is to be worked next: the newest that propagation doesn't close at the goal, which rises as long as
-    /// all are closed there. It is the newest of all where the goal has come to the delay that has to be beaten, where no more may be
+    /// The place of the task that is to be worked next: one with the fewest branches above it, if such a one is asked for, and else the newest that
+    /// propagation doesn't close at the goal, which rises as long as all are closed there. That is the newest of all where the goal has come to the delay that has to be beaten, where no more may be
     /// tried, or where memory is refused. Who follows the search is asked before each try. The last task takes the place of this one, which is
     /// no longer left.
     pub fn pick<G: Gate>(&mut self, site: &Site<'a, G>, tasks: &[Task]) -> usize
@@ -200,6 +209,12 @@ impl<'a> Rising<'a> {
         requires bench { IsWorkbenchOf site.now.instance.now self.old.bench }
         ensures { IsWorkbenchOf site.now.instance.now self.new.bench }
     {
+        if let Some(level) = self.level {
+            let mut level = level;
+            let at = level.pick(tasks);
+            self.level = Some(level);
+            return at;
+        }
         let newest = tasks.len().saturating_sub(1);
         if self.tries == 0 {
             return newest;

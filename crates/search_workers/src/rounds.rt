@@ -2,7 +2,8 @@
 
 ghost use Rattle.std.specs.Prelude.{◌≡◌, ◌≤◌, ◌+◌, ◌++◌, List, All, IfOk, IsPermutation, OnErr, OnOk, length, vec_len, vec_capacity};
 ghost use Rattle.search_workers.specs.Rounds.{HasRoomFor};
-ghost use Rattle.search_workers.specs.Searching.{limit_of, IsSearching};
+ghost use Rattle.search_workers.specs.Task.{Task};
+ghost use Rattle.search_workers.specs.Searching.{limit_of, IsSearchingOf, IsSomeSearch, SearchGoesOn};
 
 use crate::rising::Frontier;
 use crate::search::{Search, aim};
@@ -119,9 +120,12 @@ impl Search {
         deal: Deal,
         aims: Aims,
     ) -> bool
-        requires searching { IsSearching site.now.instance.now aims self.old.pieces.items (self.old.tasks.items ++ deal.tasks.items) self.old.best }
+        requires searching { (roots : List Task) × (aside : List Task)
+            × IsSearchingOf site.now.instance.now aims roots self.old.pieces.items (aside ++ (self.old.tasks.items ++ deal.tasks.items)) self.old.best }
         requires room { HasRoomFor self.old deal }
-        ensures searching { IsSearching site.now.instance.now aims self.new.pieces.items self.new.tasks.items self.new.best }
+        ensures searching { (roots aside : List Task)
+            → IsSearchingOf site.now.instance.now aims roots self.old.pieces.items (aside ++ (self.old.tasks.items ++ deal.tasks.items)) self.old.best
+            → IsSearchingOf site.now.instance.now aims roots self.new.pieces.items (aside ++ self.new.tasks.items) self.new.best }
         ensures within { vec_len self.new.pieces ≤ vec_len self.old.pieces + deal.stint.turns }
         ensures no_later { limit_of site.now.instance.now self.new.best ≤ limit_of site.now.instance.now self.old.best }
     {
@@ -154,8 +158,8 @@ impl Search {
         turns: u64,
         aims: Aims,
     ) -> bool
-        requires searching { IsSearching site.now.instance.now aims self.old.pieces.items self.old.tasks.items self.old.best }
-        ensures searching { IsSearching site.now.instance.now aims self.new.pieces.items self.new.tasks.items self.new.best }
+        requires searching { IsSomeSearch site.now.instance.now aims self.old }
+        ensures searching { SearchGoesOn site.now.instance.now aims self.old self.new }
         ensures within { length self.new.pieces.items ≤ length self.old.pieces.items + turns }
         ensures no_later { limit_of site.now.instance.now self.new.best ≤ limit_of site.now.instance.now self.old.best }
     {
@@ -174,9 +178,9 @@ impl Search {
         budget: u64,
         aims: Aims,
     )
-        requires searching { IsSearching site.now.instance.now aims self.old.pieces.items self.old.tasks.items self.old.best }
+        requires searching { IsSomeSearch site.now.instance.now aims self.old }
         requires within { length self.old.pieces.items ≤ budget }
-        ensures searching { IsSearching site.now.instance.now aims self.new.pieces.items self.new.tasks.items self.new.best }
+        ensures searching { SearchGoesOn site.now.instance.now aims self.old self.new }
         ensures within { length self.new.pieces.items ≤ budget }
         ensures no_later { limit_of site.now.instance.now self.new.best ≤ limit_of site.now.instance.now self.old.best }
     {
@@ -212,9 +216,9 @@ impl Search {
         budget: u64,
         aims: Aims,
     )
-        requires searching { IsSearching site.now.instance.now aims self.old.pieces.items self.old.tasks.items self.old.best }
+        requires searching { IsSomeSearch site.now.instance.now aims self.old }
         requires within { length self.old.pieces.items ≤ budget }
-        ensures searching { IsSearching site.now.instance.now aims self.new.pieces.items self.new.tasks.items self.new.best }
+        ensures searching { SearchGoesOn site.now.instance.now aims self.old self.new }
         ensures within { length self.new.pieces.items ≤ budget }
         ensures no_later { limit_of site.now.instance.now self.new.best ≤ limit_of site.now.instance.now self.old.best }
     {

@@ -1,12 +1,12 @@
 //! The caller's part of a search: it works what is left of the tree.
 
-ghost use Rattle.std.specs.Prelude.{◌≡◌, ◌≤◌, ◌<◌, ◌+◌, ◌++◌, [], ◌∷◌, All, IfSome, IsPermutation, List, None, OnOk, Some, cond, length, vec_len, vec_capacity};
+ghost use Rattle.std.specs.Prelude.{◌≡◌, ◌≢◌, ◌≤◌, ◌<◌, ◌+◌, ◌++◌, [], ◌∷◌, All, IfSome, IsPermutation, List, None, OnOk, Some, cond, length, vec_len, vec_capacity};
 ghost use Rattle.ttp_model.specs.declared.limits.TheConstants.{MOST_NODES};
 ghost use Rattle.search_workers.specs.Gains.{IsGain};
 ghost use Rattle.search_workers.specs.Task.{Task, IsTask};
 ghost use Rattle.search_workers.specs.Workbench.{IsWorkbenchOf};
 ghost use Rattle.search_workers.specs.declared.aims.Aims.{Aims};
-ghost use Rattle.search_workers.specs.Searching.{aim_of, limit_of, IsCutShort, IsFound, IsWorkedOut, IsSearching, IsSearchingOf, IsSomeSearch, SearchGoesOn};
+ghost use Rattle.search_workers.specs.Searching.{aim_of, limit_of, IsCutShort, IsFound, IsWorkedOut, IsSearchingOf, IsSomeSearch, SearchGoesOn};
 ghost use Rattle.search_workers.specs.declared.outcome.Why.TheVariants as why;
 ghost use Rattle.search_workers.specs.declared.rising.Order.TheVariants as orders;
 
@@ -89,9 +89,10 @@ impl Search {
         requires one { vec_len self.old.pieces < vec_capacity self.old.pieces }
         requires split { vec_len self.old.tasks + MOST_NODES ≤ vec_capacity self.old.tasks }
         requires worked { (aims : Aims) × (task : Task) × IsGain instance.now (aim_of instance.now aims self.old.best) (record { task = task; piece = piece }) gain }
-        ensures searching { (aims : Aims) (task : Task) (roots : List Task) → IsGain instance.now (aim_of instance.now aims self.old.best) (record { task = task; piece = piece }) gain
-            → IsSearchingOf instance.now aims roots self.old.pieces.items (self.old.tasks.items ++ task ∷ []) self.old.best
-            → IsSearchingOf instance.now aims roots self.new.pieces.items self.new.tasks.items self.new.best }
+        ensures searching { (aims : Aims) (task : Task) (roots aside : List Task)
+            → IsGain instance.now (aim_of instance.now aims self.old.best) (record { task = task; piece = piece }) gain
+            → IsSearchingOf instance.now aims roots self.old.pieces.items ((aside ++ self.old.tasks.items) ++ task ∷ []) self.old.best
+            → IsSearchingOf instance.now aims roots self.new.pieces.items (aside ++ self.new.tasks.items) self.new.best }
         ensures one { length self.new.pieces.items ≡ length self.old.pieces.items + 1 }
         ensures few { length self.new.tasks.items ≤ length self.old.tasks.items + MOST_NODES }
         ensures no_later { limit_of instance.now self.new.best ≤ limit_of instance.now self.old.best }
@@ -179,13 +180,13 @@ impl Search {
         order: Order,
         aims: Aims,
     ) -> Option<Why>
-        requires searching { IsSearching site.now.instance.now aims self.old.pieces.items self.old.tasks.items self.old.best }
+        requires searching { IsSomeSearch site.now.instance.now aims self.old }
         requires bench { IsWorkbenchOf site.now.instance.now bench.old }
         requires rising { IsWorkbenchOf site.now.instance.now rising.old.bench }
-        ensures searching { IsSearching site.now.instance.now aims self.new.pieces.items self.new.tasks.items self.new.best }
+        ensures searching { SearchGoesOn site.now.instance.now aims self.old self.new }
         ensures within { length self.new.pieces.items ≤ length self.old.pieces.items + turns }
         ensures cut { IfSome result (IsCutShort (length self.old.pieces.items + turns) self.new.pieces.items) }
-        ensures all { result ≡ None → order ≡ orders.Rising → length self.new.pieces.items ≡ length self.old.pieces.items + turns }
+        ensures all { result ≡ None → order ≢ orders.Newest → length self.new.pieces.items ≡ length self.old.pieces.items + turns }
         ensures called_off { result ≡ Some why.CalledOff → G.ends site.now.gate.now }
         ensures no_later { limit_of site.now.instance.now self.new.best ≤ limit_of site.now.instance.now self.old.best }
     {
@@ -212,12 +213,12 @@ impl Search {
         order: Order,
         aims: Aims,
     ) -> Option<Why>
-        requires searching { IsSearching site.now.instance.now aims self.old.pieces.items self.old.tasks.items self.old.best }
+        requires searching { IsSomeSearch site.now.instance.now aims self.old }
         requires within { length self.old.pieces.items ≤ budget }
-        ensures searching { IsSearching site.now.instance.now aims self.new.pieces.items self.new.tasks.items self.new.best }
+        ensures searching { SearchGoesOn site.now.instance.now aims self.old self.new }
         ensures within { length self.new.pieces.items ≤ budget }
         ensures cut { IfSome result (IsCutShort budget self.new.pieces.items) }
-        ensures all { result ≡ None → order ≡ orders.Rising → length self.new.pieces.items ≡ budget }
+        ensures all { result ≡ None → order ≢ orders.Newest → length self.new.pieces.items ≡ budget }
         ensures called_off { result ≡ Some why.CalledOff → G.ends site.now.gate.now }
         ensures no_later { limit_of site.now.instance.now self.new.best ≤ limit_of site.now.instance.now self.old.best }
     {
@@ -239,10 +240,10 @@ impl Search {
         budget: u64,
         aims: Aims,
     ) -> Why
-        requires searching { IsSearching site.now.instance.now aims self.old.pieces.items self.old.tasks.items self.old.best }
+        requires searching { IsSomeSearch site.now.instance.now aims self.old }
         requires within { length self.old.pieces.items ≤ part }
         requires part { part ≤ budget }
-        ensures searching { IsSearching site.now.instance.now aims self.new.pieces.items self.new.tasks.items self.new.best }
+        ensures searching { SearchGoesOn site.now.instance.now aims self.old self.new }
         ensures within { length self.new.pieces.items ≤ budget }
         ensures cause { IsWorkedOut budget self.new.pieces.items result }
         ensures called_off { result ≡ why.CalledOff → G.ends site.now.gate.now }
@@ -253,6 +254,23 @@ impl Search {
         }
         self.rise(team, site, budget, aims);
         match self.work(site, budget, Order::Rising, aims) {
+            Some(why) => why,
+            None => Why::Budget,
+        }
+    }
+
+    /// Works tasks on this thread, each time one with the fewest branches above it, so that many are left that take about as long. It ends where
+    /// `budget` pieces are made, memory is refused, or the gate says that it doesn't go on. Why it ended, where tasks are left.
+    pub fn widen<G: Gate>(&mut self, site: &Site<'_, G>, budget: u64, aims: Aims) -> Why
+        requires searching { IsSomeSearch site.now.instance.now aims self.old }
+        requires within { length self.old.pieces.items ≤ budget }
+        ensures searching { SearchGoesOn site.now.instance.now aims self.old self.new }
+        ensures within { length self.new.pieces.items ≤ budget }
+        ensures cause { IsWorkedOut budget self.new.pieces.items result }
+        ensures called_off { result ≡ why.CalledOff → G.ends site.now.gate.now }
+        ensures no_later { limit_of site.now.instance.now self.new.best ≤ limit_of site.now.instance.now self.old.best }
+    {
+        match self.work(site, budget, Order::Widest, aims) {
             Some(why) => why,
             None => Why::Budget,
         }

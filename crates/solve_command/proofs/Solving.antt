@@ -32,9 +32,9 @@ at_end (answer.Infeasible cert) IsTextAt IsRefusedBy text old new is appends = r
 at_end (answer.Stopped why low best cert) IsTextAt IsRefusedBy text old new is appends = record { text = text; is = is; appends = appends }
 
 -- nothing is lacking for a writer's sake, and memory may be
-record CanLack (IsLackingFor : Fault → Type 0) : Type 0 where
-  memory : IsLackingFor Memory
-  writers : (s : Sink) → IsLackingFor (Unwritten s) → ⊥
+pub record CanLack (IsLackingFor : Fault → Type 0) : Type 0 where
+  pub memory : IsLackingFor Memory
+  pub writers : (s : Sink) → IsLackingFor (Unwritten s) → ⊥
 
 module _ (IsFoundSo : Solved → Type 0) (IsLackingFor : Fault → Type 0) (can : CanLack IsLackingFor) (wanted : Bool) (from to old new : Option (List ℕ)) where
   -- it is certified, and its text is written or the writer fails
@@ -61,7 +61,7 @@ module _ (IsFoundSo : Solved → Type 0) (IsLackingFor : Fault → Type 0) (can 
   untold (Unwritten s) why kept keeps = absurd (can.writers s why)
   untold fault why kept keeps = ((why, kept), keeps)
 
-  found_told : (found : Result Solved Fault) → MatchResult found IsFoundSo IsLackingFor → (end : End) → IsTellingOf found wanted from to old new end
+  pub found_told : (found : Result Solved Fault) → MatchResult found IsFoundSo IsLackingFor → (end : End) → IsTellingOf found wanted from to old new end
       → IsToldOf IsFoundSo IsLackingFor wanted from to old new end
   found_told (Err fault) why end telling = rw telling.0 (untold fault why telling.1 telling.2)
   found_told (Ok solved) is end telling = elim telling [

@@ -25,6 +25,7 @@ only_enough why.Memory enough is = let many : 6 ≡ 5 = ap length is in absurd (
 only_enough why.CalledOff true is = refl
 only_enough why.CalledOff false is = let many : 4 ≡ 5 = ap length is in absurd (omega (arith, many))
 only_enough why.Gap enough is = let many : 3 ≡ 5 = ap length is in absurd (omega (arith, many))
+only_enough why.Part enough is = let many : 4 ≡ 5 = ap length is in absurd (omega (arith, many))
 
 pub until_met : (until best : Option ℕ) (cause : Why) → why_word cause (is_enough until best) ≡ codes "until" → IsEnough until best
 until_met until best cause is = enough_is until best (only_enough cause (is_enough until best) is)
@@ -36,6 +37,7 @@ only_gap why.Memory enough is = let many : 6 ≡ 3 = ap length is in absurd (ome
 only_gap why.CalledOff true is = let many : 5 ≡ 3 = ap length is in absurd (omega (arith, many))
 only_gap why.CalledOff false is = let many : 4 ≡ 3 = ap length is in absurd (omega (arith, many))
 only_gap why.Gap enough is = refl
+only_gap why.Part enough is = let many : 4 ≡ 3 = ap length is in absurd (omega (arith, many))
 
 near_by_gap : (i : Instance) (options : Options) (gap : ℕ) (cause : Why) (low : ℕ) (best : Option FoundPlan) (cert : Cert) → cause ≡ why.Gap
     → IsOutcome i options gap (answer.Stopped cause low best cert) → IsNear gap low best

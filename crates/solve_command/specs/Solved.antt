@@ -34,6 +34,7 @@ why_word why.Memory enough = codes "memory"
 why_word why.CalledOff true = codes "until"
 why_word why.CalledOff false = codes "time"
 why_word why.Gap enough = codes "gap"
+why_word why.Part enough = codes "part"
 
 -- the delay of the best plan found, or that none was
 abbrev pub best_word : Option ℕ → List ℕ

@@ -2,8 +2,10 @@
 #![tactic(auto)]
 
 mod laws;
+mod onward;
 mod solve;
 
 pub use laws::{gaps_are_met, untils_are_met};
-pub use planner::{FreeGate, Options};
-pub use solve::{Enough, solve_run, solve_run_from, solve_run_with, write_certificate};
+pub use onward::{Continuation, solve_run_on};
+pub use planner::{FreeGate, Options, Portion};
+pub use solve::{Asked, Enough, solve_run, solve_run_from, solve_run_with, write_certificate};

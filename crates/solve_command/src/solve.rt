@@ -19,7 +19,9 @@ ghost use Rattle.solve_command.specs.Telling.{end_told, held, left, IsCertifying
 use certificate::Cert;
 use command_streams::{End, Fault, Sink, read_instance, write_text};
 use plan_commands::{Verified, printed_of_readers};
-use planner::{FoundPlan, FreeGate, Options, Outcome, Site, SolveFault, Why, solve_towards};
+use planner::{
+    FoundPlan, FreeGate, Options, Outcome, Site, SolveFault, Why, solve_towards, solve_wide,
+};
 use search_watching::{Follower, is_enough, told_as};
 use std::alloc::{AllocError, Global};
 use std::fmt;
@@ -36,6 +38,15 @@ pub struct Enough {
     pub until: Option<u32>,
     /// Where none is shorter by more than so many ticks.
     pub gap: u32,
+}
+
+/// How an instance is searched.
+#[derive(Clone, Copy)]
+pub struct Asked {
+    pub options: Options,
+    pub enough: Enough,
+    /// Whether one thread works the subtree with the fewest branches above it, and no worker, for a tree that is to be dealt.
+    pub is_wide: bool,
 }
 
 /// An instance, and what a search of it found.
@@ -66,6 +77,7 @@ impl fmt::Display for WhyWord {
             (Why::CalledOff, true) => write!(f, "until"),
             (Why::CalledOff, false) => write!(f, "time"),
             (Why::Gap, _) => write!(f, "gap"),
+            (Why::Part, _) => write!(f, "part"),
         }
     }
 }
@@ -130,7 +142,7 @@ fn stopped_text(
 }
 
 /// What is written of an answer.
-fn answer_text(
+pub fn answer_text(
     alloc: Global,
     until: Option<u32>,
     instance: &Instance,
@@ -176,12 +188,11 @@ fn searched<R: Threads + Wait + Sync, G: Follower + Sync>(
     alloc: Global,
     instance: &Instance,
     start: Option<Plan>,
-    options: Options,
-    gap: u32,
+    asked: Asked,
     follower: &G,
 ) -> Result<Outcome, SolveFault>
     requires { IfSome start (IsValid instance.now) }
-    ensures answer { IfOk result (IsOutcome instance.now options gap) }
+    ensures answer { IfOk result (IsOutcome instance.now asked.options asked.enough.gap) }
     ensures shows { IfOk result (Shows instance.now) }
     ensures called_off { IfOk result (λ outcome. IsCalledOff outcome → G.ends follower.now) }
     ensures told { IfOk result (λ outcome. IfSome (best_of outcome) (λ best. G.heard follower.now instance.now best)) }
@@ -193,7 +204,12 @@ fn searched<R: Threads + Wait + Sync, G: Follower + Sync>(
         gate: follower,
     };
     follower.begin(alloc, instance);
-    let searched = solve_towards(rt, &site, options, gap, start);
+    let (options, gap) = (asked.options, asked.enough.gap);
+    let searched = if asked.is_wide {
+        solve_wide(rt, &site, options, gap, start)
+    } else {
+        solve_towards(rt, &site, options, gap, start)
+    };
     follower.end();
     searched
 }
@@ -204,21 +220,20 @@ fn solved_instance<R: Threads + Wait + Sync, G: Follower + Sync>(
     alloc: Global,
     instance: Instance,
     start: Option<Plan>,
-    options: Options,
-    enough: Enough,
+    asked: Asked,
     follower: &G,
 ) -> Result<Solved, Fault>
     requires { IfSome start (IsValid instance) }
-    ensures found { MatchResult result (IsSearchOf instance start options enough (G.ends follower.now)) IsNoSearch }
+    ensures found { MatchResult result (IsSearchOf instance start asked.options asked.enough (G.ends follower.now)) IsNoSearch }
     ensures printable { IfOk result (λ solved.
         Allows (cert_of solved.outcome).version (cert_of solved.outcome).tree) }
 {
     let _nodes = instance.nodes();
-    let outcome = match searched(rt, alloc, &instance, start, options, enough.gap, follower) {
+    let outcome = match searched(rt, alloc, &instance, start, asked, follower) {
         Ok(outcome) => outcome,
         Err(fault) => return Err(Fault::Search(told_as(fault))),
     };
-    match answer_text(alloc, enough.until, &instance, &outcome) {
+    match answer_text(alloc, asked.enough.until, &instance, &outcome) {
         Ok(text) => Ok(Solved {
             instance,
             outcome,
@@ -233,19 +248,18 @@ fn solved_of_reader<R: Threads + Wait + Sync, G: Follower + Sync, I: Read>(
     rt: &R,
     alloc: Global,
     instance: &mut I,
-    options: Options,
-    enough: Enough,
+    asked: Asked,
     follower: &G,
 ) -> Result<Solved, Fault>
     ensures judged { IfSome (I.remaining instance.old) (λ bytes. MatchResult result
-        (IsSolved bytes options enough (G.ends follower.now))
+        (IsSolved bytes asked.options asked.enough (G.ends follower.now))
         (IsUnsolved bytes)) }
     ensures printable { IfOk result (λ solved.
         Allows (cert_of solved.outcome).version (cert_of solved.outcome).tree) }
     ensures most { TakesAtMost (INSTANCE_LIMIT + 1) (I.remaining instance.old) (I.remaining instance.new) }
 {
     let instance = read_instance(alloc, instance)?;
-    solved_instance(rt, alloc, instance, None, options, enough, follower)
+    solved_instance(rt, alloc, instance, None, asked, follower)
 }
 
 /// Searches the instance that a reader's bytes state, from the valid plan that another's have printed.
@@ -254,12 +268,11 @@ fn solved_of_readers<R: Threads + Wait + Sync, G: Follower + Sync, I: Read, P: R
     alloc: Global,
     instance: &mut I,
     start: &mut P,
-    options: Options,
-    enough: Enough,
+    asked: Asked,
     follower: &G,
 ) -> Result<Solved, Fault>
     ensures judged { IfSome (I.remaining instance.old) (λ bytes. IfSome (P.remaining start.old) (λ plan. MatchResult result
-        (IsSolvedFrom bytes plan options enough (G.ends follower.now))
+        (IsSolvedFrom bytes plan asked.options asked.enough (G.ends follower.now))
         (IsUnsolvedFrom bytes plan))) }
     ensures printable { IfOk result (λ solved.
         Allows (cert_of solved.outcome).version (cert_of solved.outcome).tree) }
@@ -268,7 +281,7 @@ fn solved_of_readers<R: Threads + Wait + Sync, G: Follower + Sync, I: Read, P: R
     ensures unread { IfErr result (λ fault. IsOfInstance fault → Keeps (P.remaining start.old) (P.remaining start.new)) }
 {
     let Verified { instance, plan, .. } = printed_of_readers(alloc, instance, start)?;
-    solved_instance(rt, alloc, instance, Some(plan), options, enough, follower)
+    solved_instance(rt, alloc, instance, Some(plan), asked, follower)
 }
 
 /// Writes a certificate whose version allows all its lines.
@@ -297,7 +310,7 @@ fn write_answer<W: Write>(solved: &Solved, out: &mut W) -> End
 }
 
 /// Writes what was found, where no certificate is asked for.
-fn tell<W: Write>(found: Result<Solved, Fault>, out: &mut W) -> End
+pub fn tell<W: Write>(found: Result<Solved, Fault>, out: &mut W) -> End
     ensures { IsTellingOf found false None None (W.contents out.old) (W.contents out.new) result }
 {
     match found {
@@ -307,7 +320,7 @@ fn tell<W: Write>(found: Result<Solved, Fault>, out: &mut W) -> End
 }
 
 /// Writes what was found behind its certificate.
-fn tell_certified<C: Write, W: Write>(
+pub fn tell_certified<C: Write, W: Write>(
     alloc: Global,
     found: Result<Solved, Fault>,
     certificate: &mut C,
@@ -333,19 +346,18 @@ pub fn solve_run_with<R: Threads + Wait + Sync, G: Follower + Sync, I: Read, C: 
     rt: &R,
     alloc: Global,
     instance: &mut I,
-    options: Options,
-    enough: Enough,
+    asked: Asked,
     follower: &G,
     certificate: Option<&mut C>,
     out: &mut W,
 ) -> End
     ensures answer { IfSome (I.remaining instance.old) (λ bytes.
-        IsSolveAnswer bytes options enough (G.ends follower.now) (is_some certificate.entry)
+        IsSolveAnswer bytes asked.options asked.enough (G.ends follower.now) (is_some certificate.entry)
         (held C.contents certificate.entry) (left C.contents certificate.exit)
         (W.contents out.old) (W.contents out.new) result) }
     ensures most { TakesAtMost (INSTANCE_LIMIT + 1) (I.remaining instance.old) (I.remaining instance.new) }
 {
-    let found = solved_of_reader(rt, alloc, instance, options, enough, follower);
+    let found = solved_of_reader(rt, alloc, instance, asked, follower);
     match certificate {
         None => tell(found, out),
         Some(writer) => tell_certified(alloc, found, writer, out),
@@ -366,14 +378,13 @@ pub fn solve_run_from<
     alloc: Global,
     instance: &mut I,
     start: &mut P,
-    options: Options,
-    enough: Enough,
+    asked: Asked,
     follower: &G,
     certificate: Option<&mut C>,
     out: &mut W,
 ) -> End
     ensures answer { IfSome (I.remaining instance.old) (λ bytes. IfSome (P.remaining start.old) (λ plan.
-        IsStartedAnswer bytes plan options enough (G.ends follower.now) (is_some certificate.entry)
+        IsStartedAnswer bytes plan asked.options asked.enough (G.ends follower.now) (is_some certificate.entry)
         (held C.contents certificate.entry) (left C.contents certificate.exit)
         (W.contents out.old) (W.contents out.new) result)) }
     ensures instance { TakesAtMost (INSTANCE_LIMIT + 1) (I.remaining instance.old) (I.remaining instance.new) }
@@ -381,7 +392,7 @@ pub fn solve_run_from<
     // Where the instance is refused, the plan is left unread.
     ensures unread { IfRefused result (λ fault. IsOfInstance fault → Keeps (P.remaining start.old) (P.remaining start.new)) }
 {
-    let found = solved_of_readers(rt, alloc, instance, start, options, enough, follower);
+    let found = solved_of_readers(rt, alloc, instance, start, asked, follower);
     match certificate {
         None => tell(found, out),
         Some(writer) => tell_certified(alloc, found, writer, out),
@@ -409,11 +420,15 @@ pub fn solve_run<R: Threads + Wait + Sync, I: Read, C: Write, W: Write>(
     // No more is taken of the reader than its limit and one byte.
     ensures most { TakesAtMost (INSTANCE_LIMIT + 1) (I.remaining instance.old) (I.remaining instance.new) }
 {
-    let enough = Enough {
-        until: None,
-        gap: 0,
+    let asked = Asked {
+        options,
+        enough: Enough {
+            until: None,
+            gap: 0,
+        },
+        is_wide: false,
     };
-    let found = solved_of_reader(rt, alloc, instance, options, enough, &FreeGate);
+    let found = solved_of_reader(rt, alloc, instance, asked, &FreeGate);
     match certificate {
         None => tell(found, out),
         Some(writer) => tell_certified(alloc, found, writer, out),

@@ -40,7 +40,7 @@ pub use limits::{
     MOST_PROCESSES, MOST_ROUND, MOST_TICKS,
 };
 pub use links::has_link;
-pub use name::{Name, is_name};
+pub use name::{Name, begins_name, continues_name, is_name};
 pub use numbers::Numbers;
 pub use parts::{Cluster, Link, Message, Node, Process};
 pub use plan::Plan;

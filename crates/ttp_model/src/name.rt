@@ -79,13 +79,15 @@ impl PartialEq for Name {
     }
 }
 
-fn begins_name(byte: u8) -> bool
+/// Whether a name may begin with a byte: a letter or `_`.
+pub fn begins_name(byte: u8) -> bool
     ensures { result ≡ begins_name byte }
 {
     byte.is_ascii_alphabetic() || byte == b'_'
 }
 
-fn continues_name(byte: u8) -> bool
+/// Whether a byte may stand behind the first one of a name: a letter, a digit or `_`.
+pub fn continues_name(byte: u8) -> bool
     ensures { result ≡ continues_name byte }
 {
     byte.is_ascii_alphanumeric() || byte == b'_'

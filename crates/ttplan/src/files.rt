@@ -15,9 +15,18 @@ pub struct Named<'a> {
     command: Asks,
     instance: &'a str,
     start: Option<&'a str>,
+    from: Option<&'a str>,
     certificate: Option<&'a str>,
     reduced: Option<&'a str>,
     kept: Option<&'a str>,
+}
+
+/// The file of the certificate from which a search goes on, where it does.
+pub fn from_of<'a>(search: &Search<'a>) -> Option<&'a str> {
+    match search.from {
+        Some(onward) => Some(onward.certificate),
+        None => None,
+    }
 }
 
 impl<'a> Named<'a> {
@@ -27,6 +36,7 @@ impl<'a> Named<'a> {
             command: Asks::Solve,
             instance: search.instance,
             start: search.start,
+            from: from_of(search),
             certificate: search.certificate,
             reduced: None,
             kept: search.kept,
@@ -39,6 +49,7 @@ impl<'a> Named<'a> {
             command,
             instance: question.instance,
             start: None,
+            from: None,
             certificate: question.certificate,
             reduced: question.reduced,
             kept: None,
@@ -97,6 +108,8 @@ pub fn file_of(made: Option<Made<'_>>) -> Option<File> {
 pub struct Files {
     pub instance: File,
     pub start: Option<File>,
+    /// The certificate from which it goes on, if it does.
+    pub from: Option<File>,
     pub certificate: Option<File>,
     pub reduced: Option<File>,
     /// The file in which the best plan so far is kept, where it is there: a plan that stands in it is read.
@@ -115,17 +128,35 @@ impl Files {
 
 /// The files that a command reads.
 #[derive(Drop)]
-struct Sources {
-    instance: File,
-    start: Option<File>,
+pub struct Sources {
+    pub instance: File,
+    pub start: Option<File>,
+    /// Those that are joined, or that from which a search goes on, if it does.
+    pub certificates: Vec<File>,
 }
 
 impl Sources {
-    /// Opens them, in the order of the words.
+    /// Opens those of a command that searches, in the order of the words.
     fn of<'a>(rt: &HostRuntime, named: &Named<'a>) -> Result<Self, FileFault<'a>> {
         let instance = file_to_read(rt, Source::Instance, named.instance)?;
-        let start = file_to_start(rt, named.start)?;
-        Ok(Sources { instance, start })
+        let start = file_if_any(rt, Source::Plan, named.start)?;
+        let from = file_if_any(rt, Source::Certificate, named.from)?;
+        let mut certificates = Vec::new(rt.alloc());
+        if let Some(file) = from {
+            if certificates.push(file).is_err() {
+                return Err(FileFault::Memory);
+            }
+        }
+        Ok(Sources {
+            instance,
+            start,
+            certificates,
+        })
+    }
+
+    /// Whether a file is one of the certificates.
+    fn is_certificate(&self, file: &File) -> bool {
+        self.certificates.iter().any(|other| is_one(other, file))
     }
 
     /// As what a file is read, where it is.
@@ -133,10 +164,24 @@ impl Sources {
         if is_one(&self.instance, file) {
             return Some(Source::Instance);
         }
+        if self.is_certificate(file) {
+            return Some(Source::Certificate);
+        }
         match &self.start {
             Some(start) if is_one(start, file) => Some(Source::Plan),
             _ => None,
         }
+    }
+
+    /// Why the file of a certificate is one that is read, where it is.
+    pub fn fault_of_certificate<'a>(
+        &self,
+        command: Asks,
+        made: &Option<Made<'a>>,
+    ) -> Option<FileFault<'a>> {
+        let made = made.as_ref()?;
+        let over = self.read_as(&made.file)?;
+        Some(FileFault::Overwriting(command, Sink::Certificate, made.name, Some(over)))
     }
 }
 
@@ -213,9 +258,15 @@ impl<'a> Opened<'a> {
 
     /// The files themselves.
     fn files(self) -> Files {
+        let Sources {
+            instance,
+            start,
+            mut certificates,
+        } = self.sources;
         Files {
-            instance: self.sources.instance,
-            start: self.sources.start,
+            instance,
+            start,
+            from: certificates.pop(),
             certificate: file_of(self.sheets.certificate),
             reduced: file_of(self.sheets.reduced),
             kept: self.kept,
@@ -224,7 +275,11 @@ impl<'a> Opened<'a> {
 
     /// Why a file that is written is another one of the command, where one is.
     fn fault(&self, named: &Named<'a>) -> Option<FileFault<'a>> {
-        if let Some(fault) = self.fault_of_certificate(named.command) {
+        let certificate = &self.sheets.certificate;
+        if let Some(fault) = self
+            .sources
+            .fault_of_certificate(named.command, certificate)
+        {
             return Some(fault);
         }
         if let Some(fault) = self.fault_of_reduced(named.command) {
@@ -238,13 +293,6 @@ impl<'a> Opened<'a> {
         }
     }
 
-    /// The same of the certificate's file.
-    fn fault_of_certificate(&self, command: Asks) -> Option<FileFault<'a>> {
-        let made = self.sheets.certificate.as_ref()?;
-        let over = self.sources.read_as(&made.file)?;
-        Some(FileFault::Overwriting(command, Sink::Certificate, made.name, Some(over)))
-    }
-
     /// The same of the file of the instance beside the answer.
     fn fault_of_reduced(&self, command: Asks) -> Option<FileFault<'a>> {
         let made = self.sheets.reduced.as_ref()?;
@@ -255,15 +303,17 @@ impl<'a> Opened<'a> {
         Some(FileFault::Overwriting(command, Sink::Reduced, made.name, over))
     }
 
-    /// Whether a plan that is kept in a file would take the place of the instance or the certificate.
+    /// Whether a plan that is kept in a file would take the place of the instance or of a certificate.
     fn is_spoilt(&self, file: &File) -> bool {
-        is_one(&self.sources.instance, file) || self.sheets.is_certificate(file)
+        is_one(&self.sources.instance, file)
+            || self.sources.is_certificate(file)
+            || self.sheets.is_certificate(file)
     }
 }
 
 /// Whether two files are one, by the device and the number that the system knows each by. A terminal isn't emptied, nor is a device that
 /// is like one, so two of its names may be used.
-pub fn is_one(a: &File, b: &File) -> bool {
+fn is_one(a: &File, b: &File) -> bool {
     match (a.metadata(), b.metadata()) {
         (Ok(a), Ok(b)) => {
             !a.file_type().is_char_device() && a.dev() == b.dev() && a.ino() == b.ino()
@@ -301,13 +351,17 @@ pub fn file_to_read<'a>(
     }
 }
 
-/// The file of the plan with which a search begins, where there is one.
-fn file_to_start<'a>(rt: &HostRuntime, name: Option<&str>) -> Result<Option<File>, FileFault<'a>> {
+/// The file that an option names, opened to be read, where one is named.
+fn file_if_any<'a>(
+    rt: &HostRuntime,
+    source: Source,
+    name: Option<&str>,
+) -> Result<Option<File>, FileFault<'a>> {
     let Some(name) = name else {
         return Ok(None);
     };
-    let start = file_to_read(rt, Source::Plan, name)?;
-    Ok(Some(start))
+    let file = file_to_read(rt, source, name)?;
+    Ok(Some(file))
 }
 
 /// The file that an option names, opened to be written: where it is there, as it is.

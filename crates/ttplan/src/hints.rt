@@ -209,6 +209,10 @@ fn write_hint(out: &mut impl Write, said: &Said, fault: &Fault) -> io::Result<()
         }
         Fault::Unread(source) => write_of_file(out, "can't be opened or read", said.file(*source)),
         Fault::TooLong(source) => write_of_file(out, "has too many bytes", said.file(*source)),
+        Fault::DeepCertificate(line) => writeln!(
+            out,
+            "a search below the branch on line {line} could come to more branches, one below another, than a certificate may have"
+        ),
         Fault::LossForm(index) => writeln!(
             out,
             "a lost frame is ROUND/SLOT/NODE, three numbers from 0, or ROUND/SLOT/* for all receivers, and this is neither: {}",

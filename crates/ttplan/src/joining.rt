@@ -2,9 +2,7 @@
 
 ghost use Rattle.std.specs.Prelude.{◌≡◌, ◌≤◌, length, IfOk};
 
-use crate::files::{
-    FileFault, Made, empty, file_of, file_to_read, file_to_write, is_one, take_back,
-};
+use crate::files::{FileFault, Sources, empty, file_of, file_to_read, file_to_write, take_back};
 use crate::hints::{Said, hint_at_fault};
 use crate::searches::Sheet;
 use command_line::{Asks, Joining};
@@ -42,20 +40,14 @@ fn open_certificates<'a>(rt: &HostRuntime, names: &[&str]) -> Result<Vec<File>, 
     Ok(files)
 }
 
-/// Whether a file is one of these.
-fn is_one_of(file: &File, files: &[File]) -> bool {
-    files.iter().any(|other| is_one(other, file))
-}
-
 /// The file of a joined certificate, which is emptied once it is known to be none that is read, by whatever name, way or link.
 fn joined_of<'a>(
     rt: &HostRuntime,
     name: Option<&'a str>,
-    instance: &File,
-    certificates: &[File],
+    sources: &Sources,
 ) -> Result<Option<File>, FileFault<'a>> {
     let made = file_to_write(rt, Sink::Certificate, name)?;
-    if let Some(fault) = overwriting(&made, instance, certificates) {
+    if let Some(fault) = sources.fault_of_certificate(Asks::Join, &made) {
         take_back(rt, &made);
         return Err(fault);
     }
@@ -63,37 +55,22 @@ fn joined_of<'a>(
     Ok(file_of(made))
 }
 
-/// Why the file of a joined certificate is one that is read, where it is.
-fn overwriting<'a>(
-    made: &Option<Made<'a>>,
-    instance: &File,
-    certificates: &[File],
-) -> Option<FileFault<'a>> {
-    let Some(made) = made else {
-        return None;
-    };
-    let over = if is_one(instance, &made.file) {
-        Source::Instance
-    } else if is_one_of(&made.file, certificates) {
-        Source::Certificate
-    } else {
-        return None;
-    };
-    let (command, sink) = (Asks::Join, Sink::Certificate);
-    Some(FileFault::Overwriting(command, sink, made.name, Some(over)))
-}
-
 /// Joins the certificates of files. All files are open before one is read, in the order of the words.
 fn run_join<'a>(rt: &HostRuntime, joining: &Joining<'a>) -> Result<JoinEnd, JoinFault<'a>>
     requires { 2 ≤ length joining.now.certificates.items }
 {
-    let mut instance = file_to_read(rt, Source::Instance, joining.instance)?;
-    let mut certificates = open_certificates(rt, joining.certificates.as_slice())?;
-    let joined = joined_of(rt, joining.joined, &instance, certificates.as_slice())?;
+    let instance = file_to_read(rt, Source::Instance, joining.instance)?;
+    let certificates = open_certificates(rt, joining.certificates.as_slice())?;
+    let mut sources = Sources {
+        instance,
+        start: None,
+        certificates,
+    };
+    let joined = joined_of(rt, joining.joined, &sources)?;
     Ok(join_run(
         rt.alloc(),
-        &mut instance,
-        certificates.as_mut_slice(),
+        &mut sources.instance,
+        sources.certificates.as_mut_slice(),
         &mut Sheet(joined),
         &mut rt.stdout(),
     ))

@@ -155,10 +155,11 @@ pub fn of_rounds<'n>(rt: &HostRuntime, instance: &'n str, plan: &'n str, task: R
     told(rt, &end, &Said::files(instance, Some(plan), None))
 }
 
-/// Checks a certificate.
+/// Checks a certificate, which may be long or not.
 fn run_check(
     rt: &HostRuntime,
     threads: &(impl Threads + Sync),
+    is_long: bool,
     instance: &str,
     certificate: &str,
 ) -> End {
@@ -170,27 +171,30 @@ fn run_check(
     check_run(
         threads,
         rt.alloc(),
+        is_long,
         &mut instance,
         &mut certificate,
         &mut rt.stdout(),
     )
 }
 
-/// Checks a certificate, says why that was refused, and gives the status.
+/// Checks a certificate, which may be long or not, says why that was refused, and gives the status.
 pub fn check<'n>(
     rt: &HostRuntime,
     threads: &(impl Threads + Sync),
+    is_long: bool,
     instance: &'n str,
     certificate: &'n str,
 ) -> u8 {
-    let end = run_check(rt, threads, instance, certificate);
+    let end = run_check(rt, threads, is_long, instance, certificate);
     told(rt, &end, &Said::files(instance, None, Some(certificate)))
 }
 
-/// Judges a plan by a certificate.
+/// Judges a plan by a certificate, which may be long or not.
 fn run_judge(
     rt: &HostRuntime,
     threads: &(impl Threads + Sync),
+    is_long: bool,
     instance: &str,
     plan: &str,
     certificate: &str,
@@ -206,21 +210,38 @@ fn run_judge(
     let (alloc, mut out) = (rt.alloc(), rt.stdout());
     let (instance, plan, certificate) = (&mut instance, &mut plan, &mut certificate);
     match form {
-        AnswerForm::Text => judge_run(threads, alloc, instance, plan, certificate, &mut out),
-        AnswerForm::Json => judge_json(threads, alloc, instance, plan, certificate, &mut out),
+        AnswerForm::Text => judge_run(
+            threads,
+            alloc,
+            is_long,
+            instance,
+            plan,
+            certificate,
+            &mut out,
+        ),
+        AnswerForm::Json => judge_json(
+            threads,
+            alloc,
+            is_long,
+            instance,
+            plan,
+            certificate,
+            &mut out,
+        ),
     }
 }
 
-/// Judges a plan by a certificate, says why that was refused, and gives the status.
+/// Judges a plan by a certificate, which may be long or not, says why that was refused, and gives the status.
 pub fn judge<'n>(
     rt: &HostRuntime,
     threads: &(impl Threads + Sync),
+    is_long: bool,
     instance: &'n str,
     plan: &'n str,
     certificate: &'n str,
     form: AnswerForm,
 ) -> u8 {
-    let end = run_judge(rt, threads, instance, plan, certificate, form);
+    let end = run_judge(rt, threads, is_long, instance, plan, certificate, form);
     told(
         rt,
         &end,

@@ -66,14 +66,16 @@ fn run(rt: &HostRuntime, threads: &(impl Threads + Wait + Sync), request: Reques
         Request::Check {
             instance,
             certificate,
-        } => judging::check(rt, threads, instance, certificate),
+            is_long,
+        } => judging::check(rt, threads, is_long, instance, certificate),
         Request::Join(joining) => joining::join(rt, &joining),
         Request::Judge {
             instance,
             plan,
             certificate,
+            is_long,
             form,
-        } => judging::judge(rt, threads, instance, plan, certificate, form),
+        } => judging::judge(rt, threads, is_long, instance, plan, certificate, form),
         Request::Explain {
             instance,
             explained,

@@ -1,14 +1,20 @@
 //! How is an instance of a file searched, and where is it written what was found?
 
-use crate::files::{FileFault, Files, Named};
+ghost use Rattle.command_line.specs.Requests.{IsSoundSearch};
+ghost use Rattle.solve_command.specs.Onward.{IsSomePart};
+
+use crate::files::{FileFault, Files, Named, from_of};
 use crate::hints::{Said, hint_at_none, told};
 use crate::judging::as_json;
 use crate::plan_file::shelf_of;
-use command_line::{AnswerForm, Asks, Effort, Limit, Search, Why};
+use command_line::{AnswerForm, Asks, Effort, Limit, Part, Search, Why};
 use command_streams::End;
 use json_commands::{Asking, Beside, LIMIT, WHY, Wanted, limit_json, limit_run, why_json, why_run};
 use search_watching::{Follower, Keeper, Lines, Patience, Patient, Progress, Searches, kept_end};
-use solve_command::{Enough, FreeGate, Options, solve_run_from, solve_run_with};
+use solve_command::{
+    Asked, Continuation, Enough, FreeGate, Options, Portion, solve_run_from, solve_run_on,
+    solve_run_with,
+};
 use std::fs::File;
 use std::io::{self, IsTerminal};
 use std::marker::Sync;
@@ -66,7 +72,9 @@ fn run_solve<'a>(
     rt: &HostRuntime,
     threads: &(impl Threads + Wait + Sync),
     search: &Search<'a>,
-) -> Result<End, FileFault<'a>> {
+) -> Result<End, FileFault<'a>>
+    requires { IsSoundSearch search.now }
+{
     let files = Files::open(rt, &Named::of_search(search))?;
     if !search.effort.progress {
         return search_keeping(rt, threads, search, files, &FreeGate);
@@ -84,7 +92,9 @@ fn search_keeping<'a>(
     search: &Search<'a>,
     mut files: Files,
     follower: &(impl Follower + Sync),
-) -> Result<End, FileFault<'a>> {
+) -> Result<End, FileFault<'a>>
+    requires { IsSoundSearch search.now }
+{
     let Some(name) = search.kept else {
         return Ok(search_files(rt, threads, search, files, follower));
     };
@@ -94,25 +104,46 @@ fn search_keeping<'a>(
     Ok(kept_end(end, keeper.has_failed()))
 }
 
-/// Searches the instance of a file, from the plan of another where there is one, and tells a follower how the search goes on.
+/// How an instance is to be searched.
+fn asked_of(search: &Search) -> Asked {
+    Asked {
+        options: options_of(&search.effort),
+        enough: Enough {
+            until: search.until,
+            gap: search.gap,
+        },
+        is_wide: search.is_wide,
+    }
+}
+
+/// The part of the open leaves that is worked, where it isn't all of them.
+fn portion_of(search: &Search) -> Option<Portion>
+    requires { IsSoundSearch search.now }
+    ensures { IsSomePart result }
+{
+    let Part { number, count } = search.from?.part?;
+    Some(Portion { number, count })
+}
+
+/// Searches the instance of a file, from the plan of another where there is one, on from the certificate of a third where there is one, and
+/// tells a follower how the search goes on.
 fn search_files(
     rt: &HostRuntime,
     threads: &(impl Threads + Wait + Sync),
     search: &Search,
     files: Files,
     follower: &(impl Follower + Sync),
-) -> End {
+) -> End
+    requires { IsSoundSearch search.now }
+{
     let Files {
         mut instance,
-        start,
+        mut start,
+        from,
         mut certificate,
         ..
     } = files;
-    let options = options_of(&search.effort);
-    let enough = Enough {
-        until: search.until,
-        gap: search.gap,
-    };
+    let asked = asked_of(search);
     let patience = Patience {
         until: search.until,
         seconds: search.effort.seconds,
@@ -120,13 +151,27 @@ fn search_files(
     let patient = Patient::beside(follower, rt, patience);
     let certificate = certificate.as_mut();
     let out = &mut rt.stdout();
+    if let Some(mut cert) = from {
+        let part = portion_of(search);
+        let on = Continuation { asked, part };
+        return solve_run_on(
+            threads,
+            rt.alloc(),
+            &mut instance,
+            &mut start,
+            &mut cert,
+            on,
+            &patient,
+            certificate,
+            out,
+        );
+    }
     match start {
         None => solve_run_with(
             threads,
             rt.alloc(),
             &mut instance,
-            options,
-            enough,
+            asked,
             &patient,
             certificate,
             out,
@@ -136,8 +181,7 @@ fn search_files(
             rt.alloc(),
             &mut instance,
             &mut plan,
-            options,
-            enough,
+            asked,
             &patient,
             certificate,
             out,
@@ -146,8 +190,10 @@ fn search_files(
 }
 
 /// Searches, says why that was refused, and gives the status.
-pub fn solve(rt: &HostRuntime, threads: &(impl Threads + Wait + Sync), search: &Search) -> u8 {
-    let said = Said::files(search.instance, search.start, None);
+pub fn solve(rt: &HostRuntime, threads: &(impl Threads + Wait + Sync), search: &Search) -> u8
+    requires { IsSoundSearch search.now }
+{
+    let said = Said::files(search.instance, search.start, from_of(search));
     match run_solve(rt, threads, search) {
         Ok(end) => {
             if let End::Absent = end {

@@ -14,6 +14,7 @@ use std::thread::Threads;
 pub fn delay_told_is_the_least<W: Write>(
     rt: &(impl Threads + Sync),
     alloc: Global,
+    is_long: bool,
     instance: &[u8],
     plan: &[u8],
     certificate: &[u8],
@@ -22,13 +23,22 @@ pub fn delay_told_is_the_least<W: Write>(
     ensures { result ≡ End.Done → IsWritten (TellsLeast instance.now) (W.contents out.old) (W.contents out.new) }
 {
     let (mut instance, mut plan, mut certificate) = (instance, plan, certificate);
-    judge_run(rt, alloc, &mut instance, &mut plan, &mut certificate, out)
+    judge_run(
+        rt,
+        alloc,
+        is_long,
+        &mut instance,
+        &mut plan,
+        &mut certificate,
+        out,
+    )
 }
 
 /// That there is no plan is told only where none is valid, and not where none is below the horizon.
 pub fn none_is_told_of_no_plan<W: Write>(
     rt: &(impl Threads + Sync),
     alloc: Global,
+    is_long: bool,
     instance: &[u8],
     plan: &[u8],
     certificate: &[u8],
@@ -37,13 +47,22 @@ pub fn none_is_told_of_no_plan<W: Write>(
     ensures { result ≡ End.Absent → StatesNoPlan instance.now }
 {
     let (mut instance, mut plan, mut certificate) = (instance, plan, certificate);
-    judge_run(rt, alloc, &mut instance, &mut plan, &mut certificate, out)
+    judge_run(
+        rt,
+        alloc,
+        is_long,
+        &mut instance,
+        &mut plan,
+        &mut certificate,
+        out,
+    )
 }
 
 /// The bound is told first, and the delay behind it.
 pub fn bounds_are_told_in_order<W: Write>(
     rt: &(impl Threads + Sync),
     alloc: Global,
+    is_long: bool,
     instance: &[u8],
     plan: &[u8],
     certificate: &[u8],
@@ -52,5 +71,13 @@ pub fn bounds_are_told_in_order<W: Write>(
     ensures { result ≡ End.Stopped → IsWritten (TellsBounds instance.now) (W.contents out.old) (W.contents out.new) }
 {
     let (mut instance, mut plan, mut certificate) = (instance, plan, certificate);
-    judge_run(rt, alloc, &mut instance, &mut plan, &mut certificate, out)
+    judge_run(
+        rt,
+        alloc,
+        is_long,
+        &mut instance,
+        &mut plan,
+        &mut certificate,
+        out,
+    )
 }

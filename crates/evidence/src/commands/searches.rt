@@ -7,10 +7,16 @@ ghost use Rattle.ttp_model.specs.Delays.{delay, IsLeastDelay};
 ghost use Rattle.ttp_model.specs.Moves.{IsSettled};
 ghost use Rattle.ttp_model.specs.Plans.{IsValid};
 ghost use Rattle.certificate.specs.declared.node.Node.TheVariants.{Leaf as AsLeaf};
+ghost use Rattle.planner.specs.Onward.{told_low, IsSomePart};
+ghost use Rattle.tree_check.specs.Proofs.{Proves};
 ghost use Rattle.search_trees.specs.Task.{IsTask};
 
 use branch_tree::{Piece, Task, Worked, close_left, work};
-use planner::{FoundPlan, FreeGate, Options, Outcome, Site, SolveFault, solve, solve_towards};
+use certificate::Cert;
+use planner::{
+    FoundPlan, FreeGate, OnFault, Onward, Options, Outcome, Portion, Site, SolveFault, solve,
+    solve_on, solve_towards,
+};
 use std::alloc::Global;
 use std::sync::Wait;
 use std::thread::Threads;
@@ -103,4 +109,30 @@ pub fn least_is_told_of_a_least_delay<R: Threads + Wait + Sync>(
         Outcome::Optimal { delay, .. } => Ok(Some(delay)),
         Outcome::Infeasible { .. } | Outcome::Stopped { .. } => Ok(None),
     }
+}
+
+/// Of a search that goes on no bound is told that is below its certificate's.
+pub fn bound_is_no_lower_than_before<R: Threads + Wait + Sync>(
+    rt: &R,
+    alloc: Global,
+    instance: &Instance,
+    options: Options,
+    cert: &Cert,
+    part: Option<Portion>,
+) -> Result<Outcome, OnFault>
+    requires proves { Proves instance.now cert.now }
+    requires part { IsSomePart part }
+    ensures { IfOk result (λ outcome. cert.now.low ≤ told_low instance.now outcome) }
+{
+    let site = Site {
+        alloc,
+        instance,
+        gate: &FreeGate,
+    };
+    let onward = Onward {
+        cert,
+        part,
+        is_wide: false,
+    };
+    solve_on(rt, &site, options, 0, None, onward)
 }

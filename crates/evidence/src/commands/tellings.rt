@@ -15,6 +15,7 @@ use std::thread::Threads;
 pub fn bound_told_is_the_certificates<W: Write>(
     rt: &(impl Threads + Sync),
     alloc: Global,
+    is_long: bool,
     instance: &[u8],
     certificate: &[u8],
     out: &mut W,
@@ -23,7 +24,7 @@ pub fn bound_told_is_the_certificates<W: Write>(
         (TellsItsBound instance.now certificate.now) (W.contents out.old) (W.contents out.new) }
 {
     let (mut instance, mut certificate) = (instance, certificate);
-    check_run(rt, alloc, &mut instance, &mut certificate, out)
+    check_run(rt, alloc, is_long, &mut instance, &mut certificate, out)
 }
 
 /// The cycle that is told is the one in which the frames that words name are lost.

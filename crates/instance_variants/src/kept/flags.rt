@@ -5,7 +5,7 @@ ghost use Rattle.ttp_model.specs.Lists.{is_set};
 
 use std::alloc::Global;
 use std::marker::Model;
-use ttp_model::MemoryFault;
+use ttp_model::{MemoryFault, has_flag, put_flag};
 
 /// A flag for each place of a list, which contracts see as the list of them.
 #[derive(Drop)]
@@ -48,16 +48,14 @@ impl Flags {
     pub fn has(&self, place: usize) -> bool
         ensures { result ≡ is_set self.now place }
     {
-        place < self.items.len() && self.items[place]
+        has_flag(self.items.as_slice(), place)
     }
 
     /// Takes a flag back; past the end there is none.
     pub fn clear(&mut self, place: usize)
         ensures { self.new ≡ slice_set self.old place false }
     {
-        if place < self.items.len() {
-            self.items[place] = false;
-        }
+        put_flag(self.items.as_mut_slice(), place, false);
     }
 
     /// The same flags in memory of their own.

@@ -2,8 +2,7 @@ use Rattle.std.proofs.Common.{◌≡◌, ap, sym, ◌∙◌}
 use Rattle.std.proofs.lemmas.Bool.{false≢true}
 use Rattle.step_reads.specs.Targets.{target, known_value}
 use Rattle.tt_infer.proofs.Determined.{fault-not_lawful}
-use Rattle.step_logs.proofs.Logs.{stays_same, differ_from, same_from}
-use Rattle.begun_search.proofs.SharpSteps.{only_next}
+use Rattle.begun_search.proofs.SharpSteps.{nothing_more, only_next, values_agree, values_differ}
 use Rattle.begun_search.proofs.sharp.says_more.Goals as goal
 
 pub returns-in-Ok-clause-next : goal.returns-in-Ok-clause-next
@@ -11,14 +10,14 @@ returns-in-Ok-clause-next c = λ g next. only_next c.args.facts.now c.args.step.
 
 pub returns-in-Ok-clause-more : goal.returns-in-Ok-clause-more
 returns-in-Ok-clause-more c = λ more same.
-    differ_from _ _ more (c.value.ensures ∙ ap (λ f. known_value f c.target-fact.result) same ∙ sym c.value-before.ensures)
+    values_differ _ _ more (c.value.ensures ∙ ap (λ f. known_value f c.target-fact.result) same ∙ sym c.value-before.ensures)
 
 pub returns-in-Ok-clause-same : goal.returns-in-Ok-clause-same
 returns-in-Ok-clause-same c = λ fails.
     let s = c.args.facts.now in
     let fact : c.target-fact.result ≡ target s.instance c.args.step.now = c.target-fact.ensures ∙ ap (λ i. target i c.args.step.now) c.instance.ensures.value in
-    let same = same_from _ _ fails in
-    stays_same s c.args.step.now c.apply.new.self.known c.instance.ensures.inference c.in-Ok.ensures.step.1
+    let same = values_agree _ _ fails in
+    nothing_more s c.args.step.now c.apply.new.self.known c.instance.ensures.inference c.in-Ok.ensures.step.1
     (sym (ap (known_value c.apply.new.self.known) fact) ∙ sym c.value.ensures ∙ same ∙ c.value-before.ensures ∙ ap (known_value s.known) fact)
 
 pub returns-in-Err-clause-next : goal.returns-in-Err-clause-next

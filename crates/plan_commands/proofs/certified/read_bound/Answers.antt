@@ -2,6 +2,7 @@ use Rattle.std.proofs.Common.{IfSome, sym, subst}
 use Rattle.certificate.specs.Cert.{Cert}
 use Rattle.tree_check.specs.Proofs.{Proves}
 use Rattle.command_streams.specs.declared.ending.Fault.{Fault}
+use Rattle.command_streams.specs.declared.limits.TheConstants.{CERTIFICATE_LIMIT}
 use Rattle.command_streams.specs.Endings.{IsNotOfTexts}
 use Rattle.plan_commands.specs.Certified.{HasCertificate, IsCertificateFault}
 use Rattle.plan_commands.proofs.Accepted.{bound_only, fault_only}
@@ -17,7 +18,7 @@ returns-in-Ok-clause-judged g c =
 pub returns-in-Err-clause-judged : goal.returns-in-Err-clause-judged
 returns-in-Err-clause-judged g c =
     let remaining = g.R.Read.remaining in
-    subst (λ (told : Fault). IfSome (remaining c.args.certificate.now) (λ bytes. IsCertificateFault c.args.instance.now bytes told)) (sym c.fault_of.ensures)
+    subst (λ (told : Fault). IfSome (remaining c.args.certificate.now) (λ bytes. IsCertificateFault CERTIFICATE_LIMIT c.args.instance.now bytes told)) (sym c.fault_of.ensures)
     (fault_of_stream c.args.instance.now (remaining c.args.certificate.now) (remaining c.check_stream.new.reader)
     c.in-Err.fault c.in-Err.ensures.answer c.in-Err.ensures.taken)
 
@@ -27,6 +28,6 @@ returns-in-Ok-clause-only g c = bound_only c.args.instance.now (g.R.Read.remaini
 pub returns-in-Err-clause-only : goal.returns-in-Err-clause-only
 returns-in-Err-clause-only g c =
     let known = g.R.Read.remaining c.args.certificate.now in
-    subst (λ (told : Fault). IfSome known (λ bytes. (cert : Cert) → HasCertificate bytes cert → Proves c.args.instance.now cert → IsNotOfTexts told))
+    subst (λ (told : Fault). IfSome known (λ bytes. (cert : Cert) → HasCertificate CERTIFICATE_LIMIT bytes cert → Proves c.args.instance.now cert → IsNotOfTexts told))
     (sym c.fault_of.ensures)
     (fault_only c.args.instance.now known c.in-Err.fault c.in-Err.ensures.only)

@@ -1,12 +1,11 @@
-use Rattle.std.proofs.Common.{arith, ◌≡◌, List, [], ◌∷◌, length, sym, ap, ◌∙◌, subst}
+use Rattle.std.proofs.Common.{arith, ◌≡◌, List, length, sym, ap, ◌∙◌, subst}
 use Rattle.std.specs.List.Sorted.{IsPermutation}
 use Rattle.std.proofs.lemmas.List.{length-map}
-use Rattle.search_workers.specs.Task.{root_task}
 use Rattle.incumbent.specs.Watch.{out_count}
-use Rattle.steal_pool.specs.declared.hand.Hand.{Hand}
-use Rattle.steal_pool.specs.Hand.{all_pushed, all_taken, IsPool}
+use Rattle.begun_search.specs.hand.Hand.{Hand}
+use Rattle.begun_search.specs.Hand.{all_pushed, all_taken, IsPool}
 use Rattle.planner.specs.declared.crew.Crew.{Crew}
-use Rattle.search_workers.specs.declared.job.Job.{Job}
+use Rattle.begun_search.specs.job.Job.{Job}
 use Rattle.planner.specs.Crew.{hands_of}
 use Rattle.planner.proofs.Crews.{nobody_yet}
 use Rattle.planner.proofs.Reports.{watches_of}
@@ -39,7 +38,7 @@ returns-clause-ended g c =
       begun = begun;
       gathers = c.in_ok-add_all.ensures.gathers c.args.course.aims (length begun) jobs c.requires.instance dealt.jobs c.in_ok-reports.ensures.reports before;
       pool = subst IsPool (sym dealt.hands) c.in_ok-hands.ensures.pool;
-      pushes = subst (λ (l : List (Hand g.row.J.Denot)). IsPermutation (all_pushed l) (root_task ∷ [])) (sym dealt.hands) c.in_ok-hands.ensures.pushed;
+      pushes = subst (λ (l : List (Hand g.row.J.Denot)). IsPermutation (all_pushed l) c.args.tasks.items) (sym dealt.hands) c.in_ok-hands.ensures.pushed;
       takes = ap all_taken dealt.hands ∙ c.in_ok-hands.ensures.taken;
       top = nobody.top;
     }

@@ -1,7 +1,8 @@
-use Rattle.std.proofs.Common.{arith, ◌≡◌, ◌≤◌, length, ap, sym, subst}
+use Rattle.std.proofs.Common.{arith, ◌≡◌, ◌≤◌, All, length, ap, sym, subst}
 use Rattle.ttp_model.specs.Instance.{Instance}
 use Rattle.ttp_model.specs.Rules.{IsInstance}
-use Rattle.search_workers.specs.Searching.{limit_of}
+use Rattle.begun_search.specs.Searching.{limit_of}
+use Rattle.begun_search.specs.Task.{IsTask}
 use Rattle.planner.specs.Crew.{IsNobody}
 use Rattle.planner.proofs.collecting.searched.Goals as goal
 
@@ -10,6 +11,9 @@ crewed-requires-clause-instance g c κs within = subst IsInstance c.requires.of 
 
 pub crewed-requires-clause-nobody : goal.crewed-requires-clause-nobody
 crewed-requires-clause-nobody g c κs within = subst (λ (i : Instance). IsNobody i c.in_ok-word.word c.in_ok-word.crew) c.requires.of c.in_ok-word.ensures.nobody
+
+pub crewed-requires-clause-tasks : goal.crewed-requires-clause-tasks
+crewed-requires-clause-tasks g c κs within = subst (λ (i : Instance). All (IsTask i) c.args.tasks.items) c.requires.of c.requires.tasks
 
 pub returns-clause-within : goal.returns-clause-within
 returns-clause-within g c =

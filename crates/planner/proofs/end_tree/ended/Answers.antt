@@ -1,10 +1,9 @@
 use Rattle.std.proofs.Common.{◌≤◌, sym, subst}
 use Rattle.certificate.specs.Cert.{Cert}
 use Rattle.certificate.specs.Trees.{preorder}
-use Rattle.search_workers.specs.Searching.{limit_of}
-use Rattle.search_workers.specs.Ends.{IsAnswerOf}
+use Rattle.begun_search.specs.Searching.{limit_of}
+use Rattle.begun_search.specs.Ends.{IsAnswerOf}
 use Rattle.planner.specs.Searched.{IsLowest}
-use Rattle.planner.proofs.Ended.{end_answers}
 use Rattle.planner.proofs.Lowest.{below_limit}
 use Rattle.planner.proofs.Starts.{answer_best, called_off_only}
 use Rattle.planner.proofs.end_tree.ended.Goals as goal
@@ -18,9 +17,13 @@ returns-clause-answer c =
     let least = below_limit (limit_of i c.args.best) (preorder cert.tree) low lowest in
     let answer : IsAnswerOf i c.cause-cause.result c.args.best low c.with_low.result c.answer.result =
     c.answer.ensures i c.limit-limit.ensures (subst (λ n. low ≤ n) (sym c.limit-limit.ensures) least) in
-    end_answers i c.args.options c.args.gap c.args.why c.cause-cause.result c.args.best low cert c.nodes-nodes.ensures.instance c.requires.found c.requires.tree lowest
-    c.cause-cause.ensures c.answer.result
-    (subst (λ (x : Cert). IsAnswerOf i c.cause-cause.result c.args.best low x c.answer.result) c.with_low.ensures answer)
+    record {
+      low = low;
+      lowest = lowest;
+      cause = c.cause-cause.result;
+      told = c.cause-cause.ensures;
+      is = subst (λ (x : Cert). IsAnswerOf i c.cause-cause.result c.args.best low x c.answer.result) c.with_low.ensures answer;
+    }
 
 pub returns-clause-best : goal.returns-clause-best
 returns-clause-best c =

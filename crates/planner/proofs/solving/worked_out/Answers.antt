@@ -1,30 +1,22 @@
-use Rattle.planner.proofs.Shown.{answer_shows}
-use Rattle.planner.proofs.Starts.{same_best, same_call}
+use Rattle.std.proofs.Common.{◌≤◌, [], ◌∷◌, Option, sym, subst}
+use Rattle.std.proofs.lemmas.Result.{IfOk-weaker}
+use Rattle.begun_search.specs.found.FoundPlan.{FoundPlan}
+use Rattle.begun_search.specs.Searching.{limit_of}
+use Rattle.begun_search.specs.Task.{root_task}
 use Rattle.planner.proofs.solving.worked_out.Goals as goal
 
-pub returns-in-Plain-clause-shows : goal.returns-in-Plain-clause-shows
-returns-in-Plain-clause-shows g c =
-    answer_shows c.args.site.now.instance.now c.args.options c.args.course.aims.gap c.in_ok-outcome.outcome c.nodes-nodes.ensures.instance c.in_ok-outcome.ensures.answer
+pub returns-clause-called_off : goal.returns-clause-called_off
+returns-clause-called_off g c = IfOk-weaker c.finished.result _ _ (λ outcome is off. c.go-why.ensures.called_off (is off)) c.finished.ensures.called_off
 
-pub returns-in-Sparing-clause-answer : goal.returns-in-Sparing-clause-answer
-returns-in-Sparing-clause-answer g c = c.leaner.ensures.answer c.args.options c.args.course.aims.gap c.in_ok-outcome.ensures.answer
+pub returns-clause-no_later : goal.returns-clause-no_later
+returns-clause-no_later g c =
+    let i = c.args.site.now.instance.now in
+    IfOk-weaker c.finished.result _ _
+    (λ outcome same. subst (λ (b : Option FoundPlan). limit_of i b ≤ limit_of i c.args.search.best) (sym same) c.go-why.ensures.no_later)
+    c.finished.ensures.best
 
-pub returns-in-Sparing-clause-shows : goal.returns-in-Sparing-clause-shows
-returns-in-Sparing-clause-shows g c =
-    answer_shows c.args.site.now.instance.now c.args.options c.args.course.aims.gap c.leaner.result c.nodes-nodes.ensures.instance (c.leaner.ensures.answer c.args.options c.args.course.aims.gap c.in_ok-outcome.ensures.answer)
+pub go-why-requires-clause-searching : goal.go-why-requires-clause-searching
+go-why-requires-clause-searching g c κs within = (root_task ∷ [], [], c.requires.searching)
 
-pub leaner-requires : goal.leaner-requires
-leaner-requires g c = (c.args.options, c.args.course.aims.gap, c.in_ok-outcome.ensures.answer)
-
-pub returns-in-Sparing-clause-called_off : goal.returns-in-Sparing-clause-called_off
-returns-in-Sparing-clause-called_off g c = λ off.
-    c.go-why.ensures.called_off
-    (c.in_ok-outcome.ensures.called_off (same_call c.leaner.ensures.same.0 c.in_ok-outcome.outcome c.leaner.result c.leaner.ensures.same.1 off))
-
-pub returns-in-Plain-clause-told : goal.returns-in-Plain-clause-told
-returns-in-Plain-clause-told g c = rw c.in_ok-outcome.ensures.best c.tell.ensures
-
-pub returns-in-Sparing-clause-told : goal.returns-in-Sparing-clause-told
-returns-in-Sparing-clause-told g c =
-    let same = same_best c.leaner.ensures.same.0 c.in_ok-outcome.outcome c.leaner.result c.leaner.ensures.same.1 in
-    rw same (rw c.in_ok-outcome.ensures.best c.tell.ensures)
+pub finished-requires-clause-searching : goal.finished-requires-clause-searching
+finished-requires-clause-searching g c = c.go-why.ensures.searching (root_task ∷ []) [] c.requires.searching

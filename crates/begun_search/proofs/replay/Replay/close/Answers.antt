@@ -7,7 +7,7 @@ use Rattle.certificate.specs.declared.node.Node.TheVariants as node
 use Rattle.search_workers.specs.Task.{Task, IsTask, choice_of}
 use Rattle.search_workers.specs.Tasks.{Turn}
 use Rattle.search_workers.proofs.Children.{leaf_right}
-use Rattle.begun_search.proofs.Children.{no_kids}
+use Rattle.begun_search.proofs.ChildrenStand.{no_kids}
 use Rattle.begun_search.proofs.replay.Replay.close.Goals as goal
 
 -- the task and its leaf without idle steps are a turn, which gives no task

@@ -6,7 +6,7 @@ use Rattle.certificate.specs.declared.node.Node.TheVariants as node
 use Rattle.certificate.specs.Limits.{most_branches_above}
 use Rattle.search_workers.specs.Task.{Task, IsTask, choice_of}
 use Rattle.search_workers.specs.Tasks.{Turn}
-use Rattle.begun_search.proofs.Children.{kids_born, kids_are_tasks}
+use Rattle.begun_search.proofs.ChildrenStand.{kids_born, kids_are_tasks}
 use Rattle.begun_search.proofs.replay.Replay.split.Goals as goal
 
 -- the task and its branch are a turn, which gives the children's tasks

@@ -1,4 +1,4 @@
-use Rattle.std.proofs.Common.{arith, ◌≤◌, ◌++◌, Option, Some, List, [], ◌∷◌, sym, subst}
+use Rattle.std.proofs.Common.{arith, ◌≤◌, ◌++◌, Option, Some, List, [], ◌∷◌, sym, subst, append_assoc}
 use Rattle.std.proofs.lemmas.List.{append-nil}
 use Rattle.std.proofs.lemmas.List.Elements.{All-nil}
 use Rattle.search_workers.specs.declared.found.FoundPlan.{FoundPlan}
@@ -20,27 +20,29 @@ open_all-requires g c =
     omega (arith, kids.few, c.requires.split, c.in-Children.tasks.ok.0)
 
 pub returns-in-Children-clause-searching : goal.returns-in-Children-clause-searching
-returns-in-Children-clause-searching g c = λ aims task roots made searching.
+returns-in-Children-clause-searching g c = λ aims task roots aside made searching.
     let i = c.args.instance.now in
     let old = c.args.self.now in
     let turn : Turn = record { task = task; piece = c.args.piece } in
     let kids : HasChildren i turn c.in-Children.tasks.items = subst (Gains i (aim_of i aims old.best) turn) c.in-Children.is made.gains in
+    let after = works i aims roots old.pieces.items (aside ++ old.tasks.items) turn old.best old.best c.in-Children.tasks.items searching made.right kids.born
+    kids.each (omega arith) (branch_goal (aim_of i aims old.best) c.args.piece.node kids.no_goal) searching.found in
     rw c.push_reserved.ensures.items (rw c.open_all.ensures
-    (works i aims roots old.pieces.items old.tasks.items turn old.best old.best c.in-Children.tasks.items searching made.right kids.born kids.each (omega arith)
-    (branch_goal (aim_of i aims old.best) c.args.piece.node kids.no_goal) searching.found))
+    (subst (λ (l : List Task). IsSearchingOf i aims roots (old.pieces.items ++ c.args.piece ∷ []) l old.best)
+    (append_assoc aside old.tasks.items c.in-Children.tasks.items) after))
 
 pub returns-in-Nothing-clause-searching : goal.returns-in-Nothing-clause-searching
-returns-in-Nothing-clause-searching g c = λ aims task roots made searching.
+returns-in-Nothing-clause-searching g c = λ aims task roots aside made searching.
     let i = c.args.instance.now in
     let old = c.args.self.now in
     let turn : Turn = record { task = task; piece = c.args.piece } in
     let at : IsLeafOf i (aim_of i aims old.best) turn = subst (Gains i (aim_of i aims old.best) turn) c.in-Nothing.is made.gains in
-    let after = works i aims roots old.pieces.items old.tasks.items turn old.best old.best [] searching made.right (sym at.none) (All-nil (IsTask i)) (omega arith)
+    let after = works i aims roots old.pieces.items (aside ++ old.tasks.items) turn old.best old.best [] searching made.right (sym at.none) (All-nil (IsTask i)) (omega arith)
     (leaf_goal (aim_of i aims old.best) c.args.piece.node at.leaf at.is (omega (arith, at.at))) searching.found in
-    rw c.push_reserved.ensures.items (subst (λ (l : List Task). IsSearchingOf i aims roots (old.pieces.items ++ c.args.piece ∷ []) l old.best) (append-nil old.tasks.items) after)
+    rw c.push_reserved.ensures.items (subst (λ (l : List Task). IsSearchingOf i aims roots (old.pieces.items ++ c.args.piece ∷ []) l old.best) (append-nil (aside ++ old.tasks.items)) after)
 
 pub returns-in-Found-clause-searching : goal.returns-in-Found-clause-searching
-returns-in-Found-clause-searching g c = λ aims task roots made searching.
+returns-in-Found-clause-searching g c = λ aims task roots aside made searching.
     let i = c.args.instance.now in
     let old = c.args.self.now in
     let turn : Turn = record { task = task; piece = c.args.piece } in
@@ -48,9 +50,9 @@ returns-in-Found-clause-searching g c = λ aims task roots made searching.
     let find : HasPlan i (aim_of i aims old.best) turn c.in-Found.found = subst (Gains i (aim_of i aims old.best) turn) c.in-Found.is made.gains in
     let lower : c.in-Found.found.delay ≤ limit_of i old.best = omega (arith, find.no_later, find.below, goal_below i aims (limit_of i old.best)) in
     let reached : aim_of i aims best ≤ find.leaf.leaf.goal = omega (arith, find.no_later, find.leaf.at, goal_below i aims c.in-Found.found.delay) in
-    let after = works i aims roots old.pieces.items old.tasks.items turn old.best best [] searching made.right (sym find.leaf.none) (All-nil (IsTask i)) lower
+    let after = works i aims roots old.pieces.items (aside ++ old.tasks.items) turn old.best best [] searching made.right (sym find.leaf.none) (All-nil (IsTask i)) lower
     (leaf_goal (aim_of i aims best) c.args.piece.node find.leaf.leaf find.leaf.is reached) find.found in
-    rw c.push_reserved.ensures.items (subst (λ (l : List Task). IsSearchingOf i aims roots (old.pieces.items ++ c.args.piece ∷ []) l best) (append-nil old.tasks.items) after)
+    rw c.push_reserved.ensures.items (subst (λ (l : List Task). IsSearchingOf i aims roots (old.pieces.items ++ c.args.piece ∷ []) l best) (append-nil (aside ++ old.tasks.items)) after)
 
 pub found-requires : goal.found-requires
 found-requires g c =

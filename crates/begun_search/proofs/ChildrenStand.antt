@@ -19,7 +19,7 @@ use Rattle.certificate.specs.declared.node.Node.TheVariants as node
 use Rattle.certificate.specs.Limits.{most_branches_above}
 use Rattle.certificate.specs.Trees.{children as node_children}
 use Rattle.tree_check.specs.Proofs.{choices_below}
-use Rattle.branch_tree.proofs.Splits.{count, name_at, decisions_at, choice_at, children_are_tasks}
+use Rattle.search_workers.proofs.Splits.{count, name_at, decisions_at, choice_at, children_are_tasks}
 use Rattle.search_workers.specs.Name.{Name, child_name}
 use Rattle.search_workers.specs.Task.{Task, IsTask, AreChildren, choice_of}
 use Rattle.search_workers.specs.Tasks.{Turn, born, child_task}
