@@ -4,10 +4,10 @@ ghost use Rattle.std.specs.Prelude.{◌<◌, IfOk, length};
 ghost use Rattle.certificate_reasons.specs.Closers.{IsCycle, IsRounds, IsWindow};
 
 use crate::rings::names_of;
-use crate::times::least_end;
 use sentences::Word::{Number, Text};
 use sentences::{MOST_ITEMS, tell};
 use std::alloc::Global;
+use sought_plans::least_end;
 use std::fmt;
 use tt_infer::Facts;
 use ttp_model::MemoryFault;
@@ -40,7 +40,7 @@ pub fn window<'a>(facts: &Facts<'a>, p: u32) -> CloserReason<'a>
 {
     CloserReason::Window {
         process: facts.instance().process_name(p as usize),
-        least: least_end(facts, p),
+        least: least_end(facts.known(), facts.instance(), p),
         most: facts.le(p),
     }
 }

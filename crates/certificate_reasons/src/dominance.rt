@@ -5,9 +5,9 @@ ghost use Rattle.tt_infer.specs.Table.{IsDominance};
 ghost use Rattle.certificate_reasons.specs.Dominance.{IsLate, IsMirror, IsSettled, IsSilent};
 
 use crate::slots::start_least;
-use crate::times::most_ready;
 use sentences::Word::{Number, Text};
 use sentences::tell;
+use sought_plans::ready_by;
 use std::fmt;
 use tt_infer::Facts;
 use ttp_model::Step;
@@ -95,7 +95,7 @@ pub fn late<'a>(facts: &Facts<'a>, m: u32, r: u32) -> DominanceReason<'a>
         round: r,
         node: instance.source_name(m as usize),
         start: start_least(facts, instance.source_of(m as usize), r),
-        ready: most_ready(facts, m),
+        ready: ready_by(facts.known(), facts.instance(), m),
     }
 }
 

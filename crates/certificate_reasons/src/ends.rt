@@ -5,9 +5,9 @@ ghost use Rattle.certificate_reasons.specs.Ends.{IsBeforeEnd, IsLinkEnd, IsMessa
 
 use crate::slots::start_most;
 use crate::starts::{UnderWay, under_way};
-use crate::times::most_start;
 use sentences::Word::{Number, Text};
 use sentences::tell;
+use sought_plans::most_start;
 use std::fmt;
 use std::fmt::Display;
 use tt_infer::Facts;
@@ -74,7 +74,7 @@ pub fn link_end<'a>(facts: &Facts<'a>, l: u32) -> LatestEnd<'a>
     let link = instance.link_at(l as usize);
     LatestEnd::Link {
         after: instance.process_name(link.after as usize),
-        start: most_start(facts, link.after),
+        start: most_start(facts.known(), facts.instance(), link.after),
         before: instance.process_name(link.before as usize),
         link: l,
     }
@@ -89,7 +89,7 @@ pub fn before_end<'a>(facts: &Facts<'a>, p: u32, q: u32) -> LatestEnd<'a>
     let instance = facts.instance();
     LatestEnd::Before {
         after: instance.process_name(q as usize),
-        start: most_start(facts, q),
+        start: most_start(facts.known(), facts.instance(), q),
         before: instance.process_name(p as usize),
     }
 }
@@ -102,7 +102,7 @@ pub fn message_end<'a>(facts: &Facts<'a>, m: u32, q: u32) -> LatestEnd<'a>
 {
     LatestEnd::Message {
         receiver: facts.instance().process_name(q as usize),
-        start: most_start(facts, q),
+        start: most_start(facts.known(), facts.instance(), q),
         transfer: under_way(facts, m),
     }
 }

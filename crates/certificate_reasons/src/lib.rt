@@ -31,10 +31,8 @@ mod sizes;
 mod slots;
 mod starts;
 mod steps;
-mod sums;
 mod texts;
 mod time_lacks;
-mod times;
 mod whole;
 
 pub use absent::{Absent, NoPart};

@@ -8,11 +8,11 @@ ghost use Rattle.certificate_reasons.specs.LoadLacks.{IsFrameRoom, IsFramesRoom,
 
 use crate::loads::write_span;
 use crate::slots::cap_most;
-use crate::sums::{bytes_in_frames, bytes_on_channel, load_of};
 use sentences::Word::{Bytes, Number, Text, Ticks};
 use sentences::tell;
+use sought_plans::{bytes_in_frames, bytes_on_channel};
 use std::fmt;
-use tt_infer::Facts;
+use tt_infer::{Facts, load_of};
 
 /// A span that ends before it begins, or what there is room for; in ticks, bytes and rounds.
 #[derive(Clone, Copy)]
@@ -83,7 +83,7 @@ pub fn load_room<'a>(facts: &Facts<'a>, n: u32, a: u32, b: u32) -> LoadLack<'a>
         node: facts.instance().node_name(n as usize),
         from: a,
         until: b,
-        load: load_of(facts, n, a, b),
+        load: load_of(facts.known(), facts.instance(), n, a, b),
         ticks: b.saturating_sub(a),
     }
 }
@@ -130,7 +130,7 @@ pub fn frames_room<'a>(facts: &Facts<'a>, n: u32, a: u32, b: u32) -> LoadLack<'a
         node: facts.instance().node_name(n as usize),
         from: a,
         before: b,
-        bytes: bytes_in_frames(facts, n, a, b),
+        bytes: bytes_in_frames(facts.known(), facts.setting(), n, a, b),
         room: room_in_frames(facts, n, a, b),
     }
 }
@@ -150,7 +150,7 @@ pub fn halves_room<'a>(facts: &Facts<'a>, k: u32, n: u32, a: u32, b: u32) -> Loa
         node: facts.instance().node_name(n as usize),
         from: a,
         before: b,
-        bytes: bytes_on_channel(facts, k, n, a, b),
+        bytes: bytes_on_channel(facts.known(), facts.setting(), k, n, a, b),
         room: u64::from(b.saturating_sub(a)) * u64::from(cap_most(facts, n)),
     }
 }

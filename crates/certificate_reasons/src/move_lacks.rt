@@ -5,10 +5,9 @@ ghost use Rattle.sought_plans.specs.Dominance.{CouldBeEarlier, IsMirrored, Stand
 ghost use Rattle.certificate_reasons.specs.MoveLacks.{IsNotEarlier, IsNotMirrored, IsNotTurned};
 
 use crate::slots::{cap_least, start_least};
-use crate::sums::bytes_in_frame;
-use crate::times::most_ready;
 use sentences::Word::{Bytes, Number, Text, Ticks};
 use sentences::tell;
+use sought_plans::{bytes_in_frame, ready_by};
 use std::fmt;
 use tt_infer::Facts;
 
@@ -70,7 +69,7 @@ pub fn not_earlier<'a>(facts: &Facts<'a>, m: u32, r: u32) -> MoveLack<'a>
             least,
         };
     }
-    let (ready, start) = (most_ready(facts, m), start_least(facts, n, r));
+    let (ready, start) = (ready_by(facts.known(), facts.instance(), m), start_least(facts, n, r));
     let node = instance.source_name(m as usize);
     if start < ready {
         return MoveLack::NotReady {
@@ -82,7 +81,7 @@ pub fn not_earlier<'a>(facts: &Facts<'a>, m: u32, r: u32) -> MoveLack<'a>
             by: ready.saturating_sub(start),
         };
     }
-    let (bytes, most) = (bytes_in_frame(facts, m, r), cap_least(facts, n));
+    let (bytes, most) = (bytes_in_frame(facts.known(), facts.instance(), m, r), cap_least(facts, n));
     MoveLack::NoRoom {
         message,
         node,

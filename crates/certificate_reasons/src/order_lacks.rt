@@ -6,9 +6,9 @@ ghost use Rattle.sought_plans.specs.Known.{bef_of, le_of};
 ghost use Rattle.sought_plans.specs.Premises.{IsAhead, IsRing, least_end, wcet_of};
 ghost use Rattle.certificate_reasons.specs.OrderLacks.{IsInTime, IsNotAhead, IsNotFirst, IsNotTwins, IsRingLack};
 
-use crate::times::least_end;
 use sentences::Word::{Number, Text};
 use sentences::tell;
+use sought_plans::least_end;
 use std::fmt;
 use tt_infer::{Facts, leads};
 use ttp_model::Ring;
@@ -60,7 +60,7 @@ pub fn in_time<'a>(facts: &Facts<'a>, p: u32, q: u32) -> OrderLack<'a>
     OrderLack::InTime {
         process: instance.process_name(p as usize),
         other: instance.process_name(q as usize),
-        end: least_end(facts, q) + u64::from(wcet),
+        end: least_end(facts.known(), facts.instance(), q) + u64::from(wcet),
         most: facts.le(p),
     }
 }

@@ -3,9 +3,9 @@
 ghost use Rattle.std.specs.Prelude.{◌<◌, length};
 ghost use Rattle.certificate_reasons.specs.Orders.{IsTwinOrder, IsWindowOrder};
 
-use crate::times::least_end;
 use sentences::Word::{Number, Text};
 use sentences::tell;
+use sought_plans::least_end;
 use std::fmt;
 use tt_infer::Facts;
 
@@ -36,7 +36,7 @@ pub fn window_order<'a>(facts: &Facts<'a>, p: u32, q: u32) -> OrderReason<'a>
     let instance = facts.instance();
     OrderReason::Window {
         other: instance.process_name(q as usize),
-        other_end: least_end(facts, q),
+        other_end: least_end(facts.known(), facts.instance(), q),
         process: instance.process_name(p as usize),
         wcet: instance.process_at(p as usize).wcet,
         end: facts.le(p),

@@ -3,9 +3,9 @@
 ghost use Rattle.std.specs.Prelude.{◌<◌, length};
 ghost use Rattle.certificate_reasons.specs.Rounds.{IsArriveRound, IsSendRound};
 
-use crate::times::least_ready;
 use sentences::Word::{Number, Text};
 use sentences::tell;
+use sought_plans::least_ready;
 use std::fmt;
 use tt_infer::Facts;
 
@@ -36,7 +36,7 @@ pub fn send_round<'a>(facts: &Facts<'a>, m: u32) -> RoundReason<'a>
     let instance = facts.instance();
     RoundReason::Send {
         message: instance.message_name(m as usize),
-        ready: least_ready(facts, m),
+        ready: least_ready(facts.known(), facts.instance(), m),
         node: instance.source_name(m as usize),
     }
 }

@@ -4,9 +4,9 @@ ghost use Rattle.std.specs.Prelude.{◌<◌, length};
 ghost use Rattle.certificate_reasons.specs.Starts.{IsArrivalStart, IsBehindStart, IsLinkStart, IsMessageStart, IsRelease, IsUnderWay};
 
 use crate::slots::{dur_least, end_least};
-use crate::times::least_end;
 use sentences::Word::{Number, Text};
 use sentences::tell;
+use sought_plans::least_end;
 use std::fmt;
 use std::fmt::Display;
 use tt_infer::Facts;
@@ -79,7 +79,7 @@ pub fn link_start<'a>(facts: &Facts<'a>, l: u32) -> EarliestStart<'a>
     let link = instance.link_at(l as usize);
     EarliestStart::Link {
         before: instance.process_name(link.before as usize),
-        end: least_end(facts, link.before),
+        end: least_end(facts.known(), facts.instance(), link.before),
         after: instance.process_name(link.after as usize),
         link: l,
     }
@@ -94,7 +94,7 @@ pub fn behind_start<'a>(facts: &Facts<'a>, p: u32, q: u32) -> EarliestStart<'a>
     let instance = facts.instance();
     EarliestStart::Behind {
         before: instance.process_name(p as usize),
-        end: least_end(facts, p),
+        end: least_end(facts.known(), facts.instance(), p),
         after: instance.process_name(q as usize),
     }
 }
@@ -137,7 +137,7 @@ pub fn message_start<'a>(facts: &Facts<'a>, m: u32) -> EarliestStart<'a>
     let instance = facts.instance();
     EarliestStart::Message {
         sender: instance.sender_name(m as usize),
-        end: least_end(facts, instance.message_at(m as usize).sender),
+        end: least_end(facts.known(), facts.instance(), instance.message_at(m as usize).sender),
         transfer: under_way(facts, m),
     }
 }

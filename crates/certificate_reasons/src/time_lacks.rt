@@ -6,9 +6,9 @@ ghost use Rattle.sought_plans.specs.Known.{le_of, lo_of, top_of};
 ghost use Rattle.sought_plans.specs.Premises.{least_end};
 ghost use Rattle.certificate_reasons.specs.TimeLacks.{IsNoRound, IsNoRoundTo, IsRoundLeft, IsWindowLeft};
 
-use crate::times::least_end;
 use sentences::Word::{Number, Text};
 use sentences::tell;
+use sought_plans::least_end;
 use std::fmt;
 use tt_infer::{Facts, receives};
 
@@ -76,7 +76,7 @@ pub fn window_left<'a>(facts: &Facts<'a>, p: u32) -> TimeLack<'a>
 {
     TimeLack::Window {
         process: facts.instance().process_name(p as usize),
-        least: least_end(facts, p),
+        least: least_end(facts.known(), facts.instance(), p),
         most: facts.le(p),
     }
 }

@@ -29,7 +29,7 @@ fn bytes_beside(known: &Known, instance: &Instance, m: u32, r: u32, k: u32) -> u
 }
 
 /// How many bytes are in that frame at most. One pass over the messages of its node.
-fn bytes_in_frame(known: &Known, instance: &Instance, m: u32, r: u32) -> u64
+pub fn bytes_in_frame(known: &Known, instance: &Instance, m: u32, r: u32) -> u64
     requires fits { Fits instance.now known.now }
     requires message { m < length instance.now.messages }
     ensures { result ≡ total (bytes_beside instance.now known.now m r) (length instance.now.messages) }
@@ -42,7 +42,7 @@ fn bytes_in_frame(known: &Known, instance: &Instance, m: u32, r: u32) -> u64
 }
 
 /// When message `m` has been copied out at the latest.
-fn ready_by(known: &Known, instance: &Instance, m: u32) -> u64
+pub fn ready_by(known: &Known, instance: &Instance, m: u32) -> u64
     requires fits { Fits instance.now known.now }
     requires message { m < length instance.now.messages }
     ensures { result ≡ le_of known.now (sender_of instance.now m) + instance.now.cluster.copy_out }

@@ -15,7 +15,7 @@ mod wait;
 pub use ahead::{is_ahead, leads};
 pub use frames::{bytes_in_frames, bytes_on_channel, copies, counts_on};
 pub use known::Known;
-pub use late::could_be_earlier;
+pub use late::{bytes_in_frame, could_be_earlier, ready_by};
 pub use mirror::is_mirrored;
 pub use setting::Setting;
 pub use times::{least_end, least_ready, most_start};

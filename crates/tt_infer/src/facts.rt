@@ -4,7 +4,7 @@ ghost use Rattle.std.specs.Prelude.{◌≡◌, ◌<◌, IfOk, IsTrue, length};
 ghost use Rattle.ttp_model.specs.declared.plan.Plan.{Plan};
 ghost use Rattle.tt_choice.specs.Choice.{IsChoice, bare};
 ghost use Rattle.tt_choice.specs.Decisions.{choice_after, IsOpenDecision};
-ghost use Rattle.sought_plans.specs.Known.{IsSought, es_of, le_of, lo_of, top_of, bef_of, first_facts};
+ghost use Rattle.sought_plans.specs.Known.{Fits, IsSought, es_of, le_of, lo_of, top_of, bef_of, first_facts};
 ghost use Rattle.tt_choice.specs.Branches.{IsUnorderedPair, order_pair};
 ghost use Rattle.sought_plans.specs.Conclusions.{GoesFirst, sharpened};
 ghost use Rattle.tt_infer.specs.Facts.{AreFacts, after};
@@ -240,6 +240,14 @@ impl<'a> Facts<'a> {
         ensures inference { AreFacts self.now }
     {
         self.setting.choice()
+    }
+
+    /// All of that.
+    pub fn known(&self) -> &Known
+        ensures value { result.now ≡ self.now.known }
+        ensures fits { Fits self.now.instance result.now }
+    {
+        &self.known
     }
 
     /// Which plans are sought, with how far their slots move: its questions take one step, where those of a choice go over all nodes.

@@ -23,7 +23,7 @@ pub use laws::{
 pub use limit::Limit;
 pub use line::{FewNumbers, Line, LineNumbers, channel_line, plain_line};
 pub use rules::{
-    line_of, link_steps, message_closers, message_steps, pair_steps, process_closers,
+    line_of, link_steps, load_of, message_closers, message_steps, pair_steps, process_closers,
     process_steps, reads, step_with, target, transfer_steps,
 };
 pub use sought_plans::{copies, counts_on, leads};

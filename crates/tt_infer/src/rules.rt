@@ -15,6 +15,8 @@ mod order;
 mod rounds;
 mod starts;
 
+pub use loads::load_of;
+
 use crate::fact::{Fact, link_after, link_before, sender, sending_node};
 use crate::fault::StepFault;
 use crate::limit::Limit;

@@ -30,7 +30,7 @@ fn load_within(known: &Known, instance: &Instance, n: u32, a: u32, b: u32, p: u3
 }
 
 /// How long processes run on node `n` from `a` to `b`. One pass over its processes.
-fn load_of(known: &Known, instance: &Instance, n: u32, a: u32, b: u32) -> u64
+pub fn load_of(known: &Known, instance: &Instance, n: u32, a: u32, b: u32) -> u64
     requires { Fits instance.now known.now }
     ensures { result ≡ total (load_within instance.now known.now n a b) (length instance.now.processes) }
 {
