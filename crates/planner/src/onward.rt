@@ -385,9 +385,9 @@ fn gone_on<R: Threads + Wait + Sync, G: Gate + Sync>(
 }
 
 /// Goes on from a certificate that proves its bound, for at most `budget` subtrees more than nodes stay of it: its leaves whose goals are below the delay to
-/// beat, less the gap, are open again, or of these a part's own. They are worked by all threads so that the bound rises, or wide by one. Begins with a plan
-/// that is known, where one is, and looks for none then: the plan that is answered takes no longer. Where none is, one is looked for as `solve_towards`
-/// does.
+/// beat, less the gap, are open again, or of these a part's own. Workers work them, and towards the end of the budget all threads, so that the bound rises;
+/// or one thread works them wide. Begins with a plan that is known, where one is, and looks for none then: the plan that is answered takes no longer. Where
+/// none is, one is looked for as `solve_towards` does.
 ///
 /// Where a part has worked its own leaves and others are open, it stops with `Why::Part`; the leaves of the others stay as they are. The bound that is
 /// answered is never below the certificate's.
