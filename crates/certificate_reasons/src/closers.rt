@@ -6,8 +6,8 @@ ghost use Rattle.certificate_reasons.specs.Closers.{IsCycle, IsRounds, IsWindow}
 use crate::rings::names_of;
 use sentences::Word::{Number, Text};
 use sentences::{MOST_ITEMS, tell};
-use std::alloc::Global;
 use sought_plans::least_end;
+use std::alloc::Global;
 use std::fmt;
 use tt_infer::Facts;
 use ttp_model::MemoryFault;

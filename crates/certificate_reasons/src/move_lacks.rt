@@ -69,7 +69,10 @@ pub fn not_earlier<'a>(facts: &Facts<'a>, m: u32, r: u32) -> MoveLack<'a>
             least,
         };
     }
-    let (ready, start) = (ready_by(facts.known(), facts.instance(), m), start_least(facts, n, r));
+    let (ready, start) = (
+        ready_by(facts.known(), facts.instance(), m),
+        start_least(facts, n, r),
+    );
     let node = instance.source_name(m as usize);
     if start < ready {
         return MoveLack::NotReady {
@@ -81,7 +84,10 @@ pub fn not_earlier<'a>(facts: &Facts<'a>, m: u32, r: u32) -> MoveLack<'a>
             by: ready.saturating_sub(start),
         };
     }
-    let (bytes, most) = (bytes_in_frame(facts.known(), facts.instance(), m, r), cap_least(facts, n));
+    let (bytes, most) = (
+        bytes_in_frame(facts.known(), facts.instance(), m, r),
+        cap_least(facts, n),
+    );
     MoveLack::NoRoom {
         message,
         node,

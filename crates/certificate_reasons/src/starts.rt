@@ -137,7 +137,11 @@ pub fn message_start<'a>(facts: &Facts<'a>, m: u32) -> EarliestStart<'a>
     let instance = facts.instance();
     EarliestStart::Message {
         sender: instance.sender_name(m as usize),
-        end: least_end(facts.known(), facts.instance(), instance.message_at(m as usize).sender),
+        end: least_end(
+            facts.known(),
+            facts.instance(),
+            instance.message_at(m as usize).sender,
+        ),
         transfer: under_way(facts, m),
     }
 }

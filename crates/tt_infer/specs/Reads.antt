@@ -1,7 +1,7 @@
 -- What steps read, of what is known and of what a choice and its goal give beside it. Own profile.
 use Rattle.std.specs.Prelude.{◌≡◌, ◌≢◌, ℕ, ◌+◌, ◌-◌, ◌<◌, ◌≤◌, ◌⊎◌, ◌&&◌, List, length, slice_index, Bool, IsTrue, IsFalse}
 use Rattle.ttp_model.specs.declared.step.Step.{Step}
-use Rattle.ttp_model.specs.Instance.{Instance, link_at, node_of, source_of}
+use Rattle.ttp_model.specs.Instance.{Instance, node_of, source_of}
 use Rattle.ttp_model.specs.Graph.{HasLink, Leads}
 use Rattle.tt_choice.specs.Choice.{Choice}
 use Rattle.tt_choice.specs.Extremes.{start_least, start_most, end_least, end_most, cap_least, cap_most}

@@ -15,13 +15,12 @@ mod order;
 mod rounds;
 mod starts;
 
-pub use loads::load_of;
-
 use crate::fact::{Fact, link_after, link_before, sender, sending_node};
 use crate::fault::StepFault;
 use crate::limit::Limit;
 use crate::line::{FewNumbers, Line, channel_line, plain_line, ring_line};
 use crate::source::{Reads, Source};
+pub use loads::load_of;
 use sought_plans::{Known, Setting};
 use ttp_model::{Instance, Ring, Step};
 
