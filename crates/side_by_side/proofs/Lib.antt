@@ -3,6 +3,9 @@ pub mod Along
 pub mod StepByStep
 pub mod Tops
 pub mod Proving
+pub mod Parts
+pub mod Ways
+pub mod LeafParts
 pub mod LowBounds
 pub mod Shallow
 pub mod Faultless

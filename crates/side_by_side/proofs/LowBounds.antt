@@ -17,7 +17,7 @@ pub lowest_le : (low : ℕ) (nodes : List Node) → lowest low nodes ≤ low
 lowest_le low [] = omega arith
 lowest_le low (n ∷ nodes) = omega (arith, lowest_le (lower low n) nodes, lower_le low n)
 
-lowest-append : (low : ℕ) (xs ys : List Node) → lowest low (xs ++ ys) ≡ lowest (lowest low xs) ys
+pub lowest-append : (low : ℕ) (xs ys : List Node) → lowest low (xs ++ ys) ≡ lowest (lowest low xs) ys
 lowest-append low [] ys = refl
 lowest-append low (x ∷ xs) ys = lowest-append (lower low x) xs ys
 

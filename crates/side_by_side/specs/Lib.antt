@@ -2,6 +2,7 @@ pub mod Standing
 pub mod Copies
 pub mod Joined
 pub mod Bounds
+pub mod Parts
 pub mod Versions
 pub mod Faults
 pub mod Found
