@@ -30,7 +30,7 @@ pub use counts::{NoReceiver, WrongCount, entry_words};
 pub use described::{LargeMessage, Sizes, sizes_of};
 pub use grammar::{NotToml, not_toml};
 pub use joins::{BothOfOne, ReceiverThere, ReceiverTwice, WrongLink};
-pub use known::{Known, names_under, unknown_name};
+pub use known::{Known, list_named_at, names_under, unknown_name};
 pub use laws::{
     large_messages_leave_no_plan, near_names_are_there, odd_keys_are_unknown,
     odd_names_are_unknown, what_is_wanted_is_read,
@@ -41,11 +41,11 @@ pub use ranges::{Outside, OutsideRange};
 pub use reason::{InstanceReason, ReadAgain, reason_of, reread};
 pub use rules::{NoSuchIndex, RuleReason, rule_reason};
 pub use shared::SharedName;
-pub use spots::Spot;
+pub use spots::{Spot, index_of, table_word, text_name};
 pub use tables::{name_of, table_at};
 pub use texts::{
     MissingKey, OddKey, OddName, TextReason, UnfitNumber, WrongKind, found_at, name_of_none,
     near_key, near_of, number_at, text_reason,
 };
 pub use times::{NoTime, ShortLead, ShortTrail};
-pub use values::{Found, Kind, Shape, found_of, unfit_of};
+pub use values::{Found, Kind, Shape, found_of, unfit_of, wanted_node, wanted_to};

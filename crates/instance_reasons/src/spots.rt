@@ -24,7 +24,7 @@ pub struct Spot<'a> {
 }
 
 /// What a table of a text is called.
-fn table_word(place: Place) -> &'static str
+pub fn table_word(place: Place) -> &'static str
     ensures { result.now ≡ table_word place }
 {
     match place {
@@ -38,7 +38,7 @@ fn table_word(place: Place) -> &'static str
 }
 
 /// Its index in its array.
-fn index_of(place: Place) -> Option<usize>
+pub fn index_of(place: Place) -> Option<usize>
     ensures { result ≡ index_of place }
 {
     match place {
@@ -86,7 +86,7 @@ pub fn text_spot(table: &Table, place: Place) -> Spot<'_>
 }
 
 /// The name that stands there.
-fn text_name(table: &Table, place: Place) -> &str
+pub fn text_name(table: &Table, place: Place) -> &str
     ensures { result.now ≡ text_name (table_view table.now) place }
 {
     match place {

@@ -54,7 +54,7 @@ fn kind_of(value: &Value) -> Kind
 }
 
 /// What has to stand at the key `node`.
-fn wanted_node(place: Place) -> Shape
+pub fn wanted_node(place: Place) -> Shape
     ensures { result ≡ wanted_node place }
 {
     match place {
@@ -64,7 +64,7 @@ fn wanted_node(place: Place) -> Shape
 }
 
 /// What has to stand at the key `to`.
-fn wanted_to(place: Place) -> Shape
+pub fn wanted_to(place: Place) -> Shape
     ensures { result ≡ wanted_to place }
 {
     match place {

@@ -21,7 +21,7 @@ use Rattle.rates_text.specs.declared.error.RatesTextError.TheVariants as text
 use Rattle.unrolled_jobs.specs.declared.unrolling.UnrollFault.{UnrollFault}
 use Rattle.unrolled_jobs.specs.declared.unrolling.UnrollFault.TheVariants as unrolled
 use Rattle.unrolled_jobs.specs.Tables.{instance_of}
-use Rattle.command_streams.specs.Lines.{fault_line, part_word}
+use Rattle.command_streams.specs.Lines.{fault_line, part_word, table_words}
 use Rattle.rates_command.specs.declared.ending.RatesFault.{RatesFault}
 use Rattle.rates_command.specs.declared.ending.RatesFault.TheVariants.{Memory, Text, Unrolled, Unread, TooLong, OfPlan, Unwritten}
 use Rattle.rates_command.specs.declared.ending.RatesEnd.{RatesEnd}
@@ -46,12 +46,7 @@ rates_place_words (place.AtChain c) = codes "chain " ++ decimal c
 
 -- the words for a table of the text
 abbrev pub rates_table_words : RatesTable → List ℕ
-rates_table_words at.Top = codes "top"
-rates_table_words at.Cluster = codes "cluster"
-rates_table_words (at.Node n) = codes "node " ++ decimal n
-rates_table_words (at.Process p) = codes "process " ++ decimal p
-rates_table_words (at.Link l) = codes "link " ++ decimal l
-rates_table_words (at.Message m) = codes "message " ++ decimal m
+rates_table_words (at.Of table) = table_words table
 rates_table_words (at.Chain c) = codes "chain " ++ decimal c
 
 -- the line of a broken rule, with its place

@@ -7,6 +7,7 @@ ghost use Rattle.rates_command.specs.Lines.{named_line, rates_line, rates_model_
 
 use crate::ending::RatesFault;
 use crate::named::{LinkNames, NamedPlace, SpacedNames, message_name, node_name, process_name};
+use instance_text::Place;
 use rates_model::{RatesError, RatesPart, RatesPlace};
 use rates_text::{RatesTable, RatesTextError};
 use std::fmt;
@@ -56,12 +57,12 @@ impl fmt::Display for RatesTableWords {
 
     fn fmt<W: fmt::Write>(&self, f: &mut fmt::Formatter<W>) -> fmt::Result {
         match self.0 {
-            RatesTable::Top => write!(f, "top"),
-            RatesTable::Cluster => write!(f, "cluster"),
-            RatesTable::Node(n) => write!(f, "node {n}"),
-            RatesTable::Process(p) => write!(f, "process {p}"),
-            RatesTable::Link(l) => write!(f, "link {l}"),
-            RatesTable::Message(m) => write!(f, "message {m}"),
+            RatesTable::Of(Place::Top) => write!(f, "top"),
+            RatesTable::Of(Place::Cluster) => write!(f, "cluster"),
+            RatesTable::Of(Place::Node(n)) => write!(f, "node {n}"),
+            RatesTable::Of(Place::Process(p)) => write!(f, "process {p}"),
+            RatesTable::Of(Place::Link(l)) => write!(f, "link {l}"),
+            RatesTable::Of(Place::Message(m)) => write!(f, "message {m}"),
             RatesTable::Chain(c) => write!(f, "chain {c}"),
         }
     }

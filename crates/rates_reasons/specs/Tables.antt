@@ -1,13 +1,12 @@
 -- What of a text of several rates stands at a place, and at a key of it: as of an instance, and beside that chains. Own profile.
-use Rattle.std.specs.Prelude.{ℕ, List, Option, Some}
+use Rattle.std.specs.Prelude.{ℕ, List, Option}
 use Rattle.toml.specs.Data.{Data, Members, as_table, at, get_member}
-use Rattle.instance_text.specs.declared.error.Place.TheVariants as text
 use Rattle.instance_reasons.specs.Tables as tables
 use Rattle.instance_reasons.specs.Tables.{and_then, name_of_found}
 use Rattle.rates_text.specs.declared.error.RatesKey.{RatesKey}
 use Rattle.rates_text.specs.declared.error.RatesKey.TheVariants as key
 use Rattle.rates_text.specs.declared.error.RatesTable.{RatesTable}
-use Rattle.rates_text.specs.declared.error.RatesTable.TheVariants.{Top, Cluster, Node, Process, Link, Message, Chain}
+use Rattle.rates_text.specs.declared.error.RatesTable.TheVariants.{Of, Chain}
 use Rattle.rates_text.specs.Keys.{text_of}
 
 -- the value at a key of a table
@@ -16,12 +15,7 @@ value_in k ms = get_member (text_of k) ms
 
 -- the table at a place
 abbrev pub table_at : RatesTable → Members → Option Members
-table_at Top ms = Some ms
-table_at Cluster ms = tables.table_at text.Cluster ms
-table_at (Node n) ms = tables.table_at (text.Node n) ms
-table_at (Process p) ms = tables.table_at (text.Process p) ms
-table_at (Link l) ms = tables.table_at (text.Link l) ms
-table_at (Message m) ms = tables.table_at (text.Message m) ms
+table_at (Of place) ms = tables.table_at place ms
 table_at (Chain c) ms = and_then (and_then (value_in key.Chain ms) (at c)) as_table
 
 -- the value at a key there

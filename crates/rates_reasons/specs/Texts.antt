@@ -14,11 +14,12 @@ use Rattle.instance_reasons.specs.declared.texts.WrongKind.{WrongKind as KindRea
 use Rattle.instance_reasons.specs.Near.{nearest}
 use Rattle.instance_reasons.specs.NearNames.{AreNear}
 use Rattle.instance_reasons.specs.Tables.{and_then, names_under}
+use Rattle.instance_reasons.specs.Unknown as names
 use Rattle.instance_reasons.specs.Unknown.{first_unknown, is_known, unknown_name}
 use Rattle.instance_reasons.specs.Values.{found_of, unfit_of}
 use Rattle.rates_text.specs.declared.error.RatesKey.{RatesKey}
 use Rattle.rates_text.specs.declared.error.RatesTable.{RatesTable}
-use Rattle.rates_text.specs.declared.error.RatesTable.TheVariants.{Top, Cluster, Node, Process, Link, Message, Chain}
+use Rattle.rates_text.specs.declared.error.RatesTable.TheVariants.{Of, Chain}
 use Rattle.rates_text.specs.declared.error.RatesTextError.{RatesTextError}
 use Rattle.rates_text.specs.declared.error.RatesTextError.TheVariants.{MissingKey, NotToml, OutOfMemory, OutOfRange, Refused}
 use Rattle.rates_text.specs.declared.error.RatesTextError.TheVariants.{UnknownKey, UnknownName, WrongKind}
@@ -34,12 +35,7 @@ unknown_key place ms = and_then (table_at place ms) (first_unknown (has_key (key
 
 -- the list whose entries are named at a place: a process names its node, and all else processes
 abbrev pub list_named_at : RatesTable → Key
-list_named_at Top = list.Process
-list_named_at Cluster = list.Process
-list_named_at (Node n) = list.Process
-list_named_at (Process p) = list.Node
-list_named_at (Link l) = list.Process
-list_named_at (Message m) = list.Process
+list_named_at (Of place) = names.list_named_at place
 list_named_at (Chain c) = list.Process
 
 -- the names that may be named at a place

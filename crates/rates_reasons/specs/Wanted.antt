@@ -2,29 +2,20 @@
 use Rattle.instance_reasons.specs.declared.values.Kind.TheVariants as kind
 use Rattle.instance_reasons.specs.declared.values.Shape.{Shape}
 use Rattle.instance_reasons.specs.declared.values.Shape.TheVariants.{One, Many}
+use Rattle.instance_reasons.specs.Values as values
 use Rattle.rates_text.specs.declared.error.RatesKey.{RatesKey}
 use Rattle.rates_text.specs.declared.error.RatesKey.TheVariants as key
 use Rattle.rates_text.specs.declared.error.RatesTable.{RatesTable}
-use Rattle.rates_text.specs.declared.error.RatesTable.TheVariants.{Top, Cluster, Node, Process, Link, Message, Chain}
+use Rattle.rates_text.specs.declared.error.RatesTable.TheVariants.{Of, Chain}
 
 -- at the key `node`: a process names its node, and the top table has them all
 abbrev pub wanted_node : RatesTable → Shape
-wanted_node Top = Many kind.Table
-wanted_node Cluster = Many kind.Table
-wanted_node (Node n) = Many kind.Table
-wanted_node (Process p) = One kind.Text
-wanted_node (Link l) = Many kind.Table
-wanted_node (Message m) = Many kind.Table
+wanted_node (Of place) = values.wanted_node place
 wanted_node (Chain c) = Many kind.Table
 
 -- and at the key `to`: a message has receivers, and a link one end
 abbrev pub wanted_to : RatesTable → Shape
-wanted_to Top = One kind.Text
-wanted_to Cluster = One kind.Text
-wanted_to (Node n) = One kind.Text
-wanted_to (Process p) = One kind.Text
-wanted_to (Link l) = One kind.Text
-wanted_to (Message m) = Many kind.Text
+wanted_to (Of place) = values.wanted_to place
 wanted_to (Chain c) = One kind.Text
 
 -- at each key one value, or a list

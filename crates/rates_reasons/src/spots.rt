@@ -8,6 +8,7 @@ ghost use Rattle.rates_reasons.specs.Spots.{IsRatesSpot, IsRatesTextSpot, index_
 use crate::parts::{chain_name, message_name, node_name, process_name};
 use crate::tables;
 use instance_reasons::Spot;
+use instance_text::Place;
 use rates_model::{RatesParts, RatesPlace};
 use rates_text::RatesTable;
 use toml::Table;
@@ -17,12 +18,7 @@ fn table_word(place: RatesTable) -> &'static str
     ensures { result.now ≡ table_word place }
 {
     match place {
-        RatesTable::Top => "top of the text",
-        RatesTable::Cluster => "cluster",
-        RatesTable::Node(_) => "node",
-        RatesTable::Process(_) => "process",
-        RatesTable::Link(_) => "link",
-        RatesTable::Message(_) => "message",
+        RatesTable::Of(place) => instance_reasons::table_word(place),
         RatesTable::Chain(_) => "chain",
     }
 }
@@ -32,12 +28,8 @@ fn index_of(place: RatesTable) -> Option<usize>
     ensures { result ≡ index_of place }
 {
     match place {
-        RatesTable::Top | RatesTable::Cluster => None,
-        RatesTable::Node(index)
-        | RatesTable::Process(index)
-        | RatesTable::Link(index)
-        | RatesTable::Message(index)
-        | RatesTable::Chain(index) => Some(index),
+        RatesTable::Of(place) => instance_reasons::index_of(place),
+        RatesTable::Chain(index) => Some(index),
     }
 }
 
@@ -46,11 +38,11 @@ fn table_of(place: RatesPlace) -> RatesTable
     ensures { result ≡ table_of place }
 {
     match place {
-        RatesPlace::AtCluster => RatesTable::Cluster,
-        RatesPlace::AtNode(n) => RatesTable::Node(n as usize),
-        RatesPlace::AtProcess(p) => RatesTable::Process(p as usize),
-        RatesPlace::AtLink(l) => RatesTable::Link(l as usize),
-        RatesPlace::AtMessage(m) => RatesTable::Message(m as usize),
+        RatesPlace::AtCluster => RatesTable::Of(Place::Cluster),
+        RatesPlace::AtNode(n) => RatesTable::Of(Place::Node(n as usize)),
+        RatesPlace::AtProcess(p) => RatesTable::Of(Place::Process(p as usize)),
+        RatesPlace::AtLink(l) => RatesTable::Of(Place::Link(l as usize)),
+        RatesPlace::AtMessage(m) => RatesTable::Of(Place::Message(m as usize)),
         RatesPlace::AtChain(c) => RatesTable::Chain(c as usize),
     }
 }
@@ -85,11 +77,8 @@ fn text_name(table: &Table, place: RatesTable) -> &str
     ensures { result.now ≡ text_name (table_view table.now) place }
 {
     match place {
-        RatesTable::Top | RatesTable::Cluster | RatesTable::Link(_) => "",
-        RatesTable::Node(_)
-        | RatesTable::Process(_)
-        | RatesTable::Message(_)
-        | RatesTable::Chain(_) => { tables::name_at(table, place) }
+        RatesTable::Of(place) => instance_reasons::text_name(table, place),
+        RatesTable::Chain(_) => tables::name_at(table, place),
     }
 }
 

@@ -8,7 +8,6 @@ ghost use Rattle.rates_text.specs.declared.error.RatesKey.TheVariants as key;
 ghost use Rattle.rates_reasons.specs.Tables.{name_at, table_at, value_at, value_in};
 
 use instance_reasons::name_of;
-use instance_text::Place;
 use rates_text::{RatesKey, RatesTable};
 use toml::{Table, Value};
 
@@ -32,12 +31,7 @@ pub fn table_at<'a>(table: &'a Table, place: RatesTable) -> Option<&'a Table>
     ensures { option_map (λ t. table_view t.now) result ≡ table_at place (table_view table.now) }
 {
     match place {
-        RatesTable::Top => Some(table),
-        RatesTable::Cluster => instance_reasons::table_at(table, Place::Cluster),
-        RatesTable::Node(n) => instance_reasons::table_at(table, Place::Node(n)),
-        RatesTable::Process(p) => instance_reasons::table_at(table, Place::Process(p)),
-        RatesTable::Link(l) => instance_reasons::table_at(table, Place::Link(l)),
-        RatesTable::Message(m) => instance_reasons::table_at(table, Place::Message(m)),
+        RatesTable::Of(place) => instance_reasons::table_at(table, place),
         RatesTable::Chain(c) => chain_table(table, c),
     }
 }

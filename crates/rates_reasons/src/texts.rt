@@ -60,8 +60,8 @@ fn list_named_at(place: RatesTable) -> Key
     ensures { result ≡ list_named_at place }
 {
     match place {
-        RatesTable::Process(_) => Key::Node,
-        _ => Key::Process,
+        RatesTable::Of(place) => instance_reasons::list_named_at(place),
+        RatesTable::Chain(_) => Key::Process,
     }
 }
 

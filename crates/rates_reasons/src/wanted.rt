@@ -11,8 +11,8 @@ fn wanted_node(place: RatesTable) -> Shape
     ensures { result ≡ wanted_node place }
 {
     match place {
-        RatesTable::Process(_) => Shape::One(Kind::Text),
-        _ => Shape::Many(Kind::Table),
+        RatesTable::Of(place) => instance_reasons::wanted_node(place),
+        RatesTable::Chain(_) => Shape::Many(Kind::Table),
     }
 }
 
@@ -21,8 +21,8 @@ fn wanted_to(place: RatesTable) -> Shape
     ensures { result ≡ wanted_to place }
 {
     match place {
-        RatesTable::Message(_) => Shape::Many(Kind::Text),
-        _ => Shape::One(Kind::Text),
+        RatesTable::Of(place) => instance_reasons::wanted_to(place),
+        RatesTable::Chain(_) => Shape::One(Kind::Text),
     }
 }
 

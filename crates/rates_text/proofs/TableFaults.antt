@@ -1,6 +1,7 @@
 -- A table's fault is never that the text is no TOML, that the model refuses it, or want of memory.
 use Rattle.std.proofs.Common.{ℕ, ◌+◌, ℤ, pos, negsuc, Bool, true, false, cond, List, [], ◌∷◌, Option, None, Some, Ok, Err, IfErr, nat_lt}
 use Rattle.toml.specs.Data.{Data, string, integer, boolean, array, table, Members}
+use Rattle.instance_text.specs.declared.error.Place.TheVariants.{Top, Cluster, Node, Process, Link, Message}
 use Rattle.rates_text.specs.declared.error.RatesKey.{RatesKey}
 use Rattle.rates_text.specs.declared.error.RatesTable.{RatesTable}
 use Rattle.rates_text.specs.declared.error.RatesTextError.{RatesTextError}
@@ -122,23 +123,23 @@ HasTableFault-table_at A place known make ms =
 -- of the tables of an array
 HasTableFault-nodes_of : (ts : Tables) → HasTableFault (nodes_of ts.nodes)
 HasTableFault-nodes_of ts =
-    HasTableFault-each stated_node (λ n t. HasTableFault-table_at RatesNode (at.Node n) none_known the_node t) 0 ts.nodes
+    HasTableFault-each stated_node (λ n t. HasTableFault-table_at RatesNode (at.Of (Node n)) none_known the_node t) 0 ts.nodes
 
 module _ (ts : Tables) (index : Index) where
   HasTableFault-processes_of : HasTableFault (processes_of index ts.processes)
   HasTableFault-processes_of =
       HasTableFault-each (process_of index)
-      (λ p t. HasTableFault-table_at RatesProcess (at.Process p) (knows_nodes index) the_process t) 0 ts.processes
+      (λ p t. HasTableFault-table_at RatesProcess (at.Of (Process p)) (knows_nodes index) the_process t) 0 ts.processes
 
   HasTableFault-links_of : HasTableFault (links_of index ts.links)
   HasTableFault-links_of =
       HasTableFault-each (link_of index)
-      (λ l t. HasTableFault-table_at RatesLink (at.Link l) (knows_processes index) the_link t) 0 ts.links
+      (λ l t. HasTableFault-table_at RatesLink (at.Of (Link l)) (knows_processes index) the_link t) 0 ts.links
 
   HasTableFault-messages_of : HasTableFault (messages_of index ts.messages)
   HasTableFault-messages_of =
       HasTableFault-each (message_of index)
-      (λ m t. HasTableFault-table_at RatesMessage (at.Message m) (knows_processes index) the_message t) 0 ts.messages
+      (λ m t. HasTableFault-table_at RatesMessage (at.Of (Message m)) (knows_processes index) the_message t) 0 ts.messages
 
   HasTableFault-chains_of : HasTableFault (chains_of index ts.chains)
   HasTableFault-chains_of =
@@ -148,9 +149,9 @@ module _ (ts : Tables) (index : Index) where
 -- of a whole text
 HasTableFault-stated_in_its_ticks : (ms : Members) → HasTableFault (stated_in_its_ticks ms)
 HasTableFault-stated_in_its_ticks ms =
-    HasTableFault-then (stated_tables ms) _ (HasTableFault-table_at Tables at.Top none_known the_tables ms) (λ ts.
+    HasTableFault-then (stated_tables ms) _ (HasTableFault-table_at Tables (at.Of Top) none_known the_tables ms) (λ ts.
     HasTableFault-then (cluster_of ts.cluster) _
-    (HasTableFault-table_at RatesCluster at.Cluster none_known the_cluster ts.cluster) (λ cluster.
+    (HasTableFault-table_at RatesCluster (at.Of Cluster) none_known the_cluster ts.cluster) (λ cluster.
     HasTableFault-then (nodes_of ts.nodes) _ (HasTableFault-nodes_of ts) (λ nodes.
     let at_nodes : Index = index_in (node_names nodes) in
     HasTableFault-then (processes_of at_nodes ts.processes) _ (HasTableFault-processes_of ts at_nodes) (λ processes.

@@ -2,10 +2,11 @@
 -- this project's own profile of TOML.
 use Rattle.std.specs.Prelude.{ℕ, Bool, false, List, [], ◌∷◌, Option, None, Some}
 use Rattle.toml.specs.Data.{Members}
+use Rattle.instance_text.specs.declared.error.Place.TheVariants.{Top, Cluster, Node, Process, Link, Message}
 use Rattle.rates_text.specs.declared.error.RatesKey.{RatesKey}
 use Rattle.rates_text.specs.declared.error.RatesKey.TheVariants as key
 use Rattle.rates_text.specs.declared.error.RatesTable.{RatesTable}
-use Rattle.rates_text.specs.declared.error.RatesTable.TheVariants.{Top, Cluster, Node, Process, Link, Message, Chain}
+use Rattle.rates_text.specs.declared.error.RatesTable.TheVariants.{Of, Chain}
 
 -- The kinds of values: a table, an array of tables, a whole number, one that may be missing,
 -- true or false, a text, the name of a node, the name of a process, an array of names of processes.
@@ -48,20 +49,20 @@ optional k kind value = record { key = k; kind = kind; default = Some value }
 
 -- The keys of each table, in the order of checks. Times are in ticks.
 abbrev pub rows : RatesTable → List KeyRow
-rows Top =
+rows (Of Top) =
     needed key.Cluster one_table ∷ needed key.Node tables ∷ needed key.Process tables
     ∷ optional key.Link tables [] ∷ optional key.Message tables [] ∷ optional key.Chain tables [] ∷ []
-rows Cluster =
+rows (Of Cluster) =
     needed key.Precision number ∷ needed key.Lead number ∷ needed key.Trail number
     ∷ needed key.Head number ∷ needed key.PerByte number ∷ needed key.CopyOut number
     ∷ needed key.CopyIn number ∷ optional key.Channels number 1 ∷ optional key.Store number 1
     ∷ optional key.Round number_or_none None ∷ []
-rows (Node n) = needed key.Name text ∷ needed key.Capacity number ∷ []
-rows (Process p) =
+rows (Of (Node n)) = needed key.Name text ∷ needed key.Capacity number ∷ []
+rows (Of (Process p)) =
     needed key.Name text ∷ needed key.Node node ∷ needed key.Wcet number ∷ needed key.Period number
     ∷ optional key.Release number 0 ∷ optional key.Deadline number_or_none None ∷ []
-rows (Link l) = needed key.From process ∷ needed key.To process ∷ optional key.Delay number 0 ∷ []
-rows (Message m) =
+rows (Of (Link l)) = needed key.From process ∷ needed key.To process ∷ optional key.Delay number 0 ∷ []
+rows (Of (Message m)) =
     needed key.Name text ∷ needed key.From process ∷ needed key.To processes
     ∷ needed key.Bytes number ∷ optional key.Both truth false ∷ optional key.Delay number 0 ∷ []
 rows (Chain c) = needed key.Name text ∷ needed key.Through processes ∷ needed key.Age number ∷ []

@@ -1,15 +1,11 @@
 -- How a place is shown to a reader.
 use Rattle.std.specs.Prelude.{ℕ, List, ◌++◌, codes}
 use Rattle.std.specs.Fmt.{decimal}
+use Rattle.instance_text.specs.Shown as tables
 use Rattle.rates_text.specs.declared.error.RatesTable.{RatesTable}
-use Rattle.rates_text.specs.declared.error.RatesTable.TheVariants.{Top, Cluster, Node, Process, Link, Message, Chain}
+use Rattle.rates_text.specs.declared.error.RatesTable.TheVariants.{Of, Chain}
 
 -- a table by its header, and its index from 0 where it stands in an array
 abbrev pub shown : RatesTable → List ℕ
-shown Top = codes "the top table"
-shown Cluster = codes "[cluster]"
-shown (Node n) = codes "[[node]] " ++ decimal n
-shown (Process p) = codes "[[process]] " ++ decimal p
-shown (Link l) = codes "[[link]] " ++ decimal l
-shown (Message m) = codes "[[message]] " ++ decimal m
+shown (Of place) = tables.shown place
 shown (Chain c) = codes "[[chain]] " ++ decimal c

@@ -1,6 +1,7 @@
 -- The cluster of several rates that a TOML table states, or its first fault.
 use Rattle.std.specs.Prelude.{ℕ, Bool, List, map, Option, None, Ok, unwrap_or}
 use Rattle.toml.specs.Data.{Members}
+use Rattle.instance_text.specs.declared.error.Place.TheVariants.{Top, Cluster, Node, Process, Link, Message}
 use Rattle.rates_model.specs.declared.parts.RatesCluster.{RatesCluster}
 use Rattle.rates_model.specs.declared.parts.RatesNode.{RatesNode}
 use Rattle.rates_model.specs.declared.parts.RatesProcess.{RatesProcess}
@@ -97,15 +98,15 @@ knows_processes processes = record { nodes = λ _. None; processes = processes }
 
 -- the top table
 abbrev pub stated_tables : Members → Stated Tables
-stated_tables = table_at at.Top none_known the_tables
+stated_tables = table_at (at.Of Top) none_known the_tables
 
 -- the table [cluster]
 abbrev pub cluster_of : Members → Stated RatesCluster
-cluster_of = table_at at.Cluster none_known the_cluster
+cluster_of = table_at (at.Of Cluster) none_known the_cluster
 
 -- the table [[node]] of this index
 abbrev pub stated_node : ℕ → Members → Stated RatesNode
-stated_node n = table_at (at.Node n) none_known the_node
+stated_node n = table_at (at.Of (Node n)) none_known the_node
 
 -- the tables [[node]]
 abbrev pub nodes_of : List Members → Stated (List RatesNode)
@@ -113,7 +114,7 @@ nodes_of = each stated_node 0
 
 -- the table [[process]] of this index, where these are the names of nodes
 abbrev pub process_of : Index → ℕ → Members → Stated RatesProcess
-process_of nodes p = table_at (at.Process p) (knows_nodes nodes) the_process
+process_of nodes p = table_at (at.Of (Process p)) (knows_nodes nodes) the_process
 
 -- the tables [[process]]
 abbrev pub processes_of : Index → List Members → Stated (List RatesProcess)
@@ -121,7 +122,7 @@ processes_of nodes = each (process_of nodes) 0
 
 -- the table [[link]] of this index, where these are the names of processes
 abbrev pub link_of : Index → ℕ → Members → Stated RatesLink
-link_of processes l = table_at (at.Link l) (knows_processes processes) the_link
+link_of processes l = table_at (at.Of (Link l)) (knows_processes processes) the_link
 
 -- the tables [[link]]
 abbrev pub links_of : Index → List Members → Stated (List RatesLink)
@@ -129,7 +130,7 @@ links_of processes = each (link_of processes) 0
 
 -- the table [[message]] of this index, where these are the names of processes
 abbrev pub message_of : Index → ℕ → Members → Stated RatesMessage
-message_of processes m = table_at (at.Message m) (knows_processes processes) the_message
+message_of processes m = table_at (at.Of (Message m)) (knows_processes processes) the_message
 
 -- the tables [[message]]
 abbrev pub messages_of : Index → List Members → Stated (List RatesMessage)

@@ -6,6 +6,7 @@ ghost use Rattle.rates_text.specs.Stated.{cluster_of};
 
 use crate::error::{RatesKey, RatesTable, RatesTextError};
 use crate::{fields, keys};
+use instance_text::Place;
 use rates_model::RatesCluster;
 use toml::Table;
 
@@ -13,7 +14,7 @@ use toml::Table;
 pub fn cluster(table: &Table) -> Result<RatesCluster, RatesTextError>
     ensures { result ≡ cluster_of (table_view table.now) }
 {
-    let place = RatesTable::Cluster;
+    let place = RatesTable::Of(Place::Cluster);
     keys::judge(table, place)?;
     let precision = fields::number(table, place, RatesKey::Precision)?;
     let lead = fields::number(table, place, RatesKey::Lead)?;

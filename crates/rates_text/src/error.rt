@@ -3,6 +3,7 @@
 ghost use Rattle.std.specs.Prelude.{◌≡◌};
 ghost use Rattle.rates_text.specs.Keys.{text_of};
 
+use instance_text::Place;
 use rates_model::RatesError;
 use std::alloc::{AllocError, AllocFailed};
 use std::fmt;
@@ -11,18 +12,8 @@ use thiserror::Error;
 /// A table of the text. Tables of one array are counted from 0.
 #[derive(Clone, Copy, Debug, PartialEq, Eq)]
 pub enum RatesTable {
-    /// The top table.
-    Top,
-    /// The table `[cluster]`.
-    Cluster,
-    /// A table `[[node]]`.
-    Node(usize),
-    /// A table `[[process]]`.
-    Process(usize),
-    /// A table `[[link]]`.
-    Link(usize),
-    /// A table `[[message]]`.
-    Message(usize),
+    /// One that the text of an instance has too.
+    Of(Place),
     /// A table `[[chain]]`.
     Chain(usize),
 }
@@ -35,12 +26,7 @@ impl fmt::Display for RatesTable {
 
     fn fmt<W: fmt::Write>(&self, f: &mut fmt::Formatter<W>) -> fmt::Result {
         match self {
-            RatesTable::Top => write!(f, "the top table"),
-            RatesTable::Cluster => write!(f, "[cluster]"),
-            RatesTable::Node(index) => write!(f, "[[node]] {index}"),
-            RatesTable::Process(index) => write!(f, "[[process]] {index}"),
-            RatesTable::Link(index) => write!(f, "[[link]] {index}"),
-            RatesTable::Message(index) => write!(f, "[[message]] {index}"),
+            RatesTable::Of(place) => write!(f, "{place}"),
             RatesTable::Chain(index) => write!(f, "[[chain]] {index}"),
         }
     }

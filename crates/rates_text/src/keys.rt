@@ -7,6 +7,7 @@ ghost use Rattle.rates_text.specs.Tables.{keys_at, has_key, has_only};
 ghost use Rattle.rates_text.specs.declared.error.RatesTextError.TheVariants.{UnknownKey};
 
 use crate::error::{RatesKey, RatesTable, RatesTextError};
+use instance_text::Place;
 use toml::Table;
 
 /// The keys of such a table, in the order of checks.
@@ -14,7 +15,7 @@ pub fn keys_at(place: RatesTable) -> &'static [RatesKey]
     ensures { result.now ≡ keys_at place }
 {
     match place {
-        RatesTable::Top => &[
+        RatesTable::Of(Place::Top) => &[
             RatesKey::Cluster,
             RatesKey::Node,
             RatesKey::Process,
@@ -22,7 +23,7 @@ pub fn keys_at(place: RatesTable) -> &'static [RatesKey]
             RatesKey::Message,
             RatesKey::Chain,
         ],
-        RatesTable::Cluster => &[
+        RatesTable::Of(Place::Cluster) => &[
             RatesKey::Precision,
             RatesKey::Lead,
             RatesKey::Trail,
@@ -34,8 +35,8 @@ pub fn keys_at(place: RatesTable) -> &'static [RatesKey]
             RatesKey::Store,
             RatesKey::Round,
         ],
-        RatesTable::Node(_) => &[RatesKey::Name, RatesKey::Capacity],
-        RatesTable::Process(_) => &[
+        RatesTable::Of(Place::Node(_)) => &[RatesKey::Name, RatesKey::Capacity],
+        RatesTable::Of(Place::Process(_)) => &[
             RatesKey::Name,
             RatesKey::Node,
             RatesKey::Wcet,
@@ -43,8 +44,8 @@ pub fn keys_at(place: RatesTable) -> &'static [RatesKey]
             RatesKey::Release,
             RatesKey::Deadline,
         ],
-        RatesTable::Link(_) => &[RatesKey::From, RatesKey::To, RatesKey::Delay],
-        RatesTable::Message(_) => &[
+        RatesTable::Of(Place::Link(_)) => &[RatesKey::From, RatesKey::To, RatesKey::Delay],
+        RatesTable::Of(Place::Message(_)) => &[
             RatesKey::Name,
             RatesKey::From,
             RatesKey::To,

@@ -10,6 +10,7 @@ ghost use Rattle.rates_text.specs.Views.{table_views};
 use crate::error::{RatesKey, RatesTable, RatesTextError};
 use crate::names::RatesNames;
 use crate::{fields, keys};
+use instance_text::Place;
 use rates_model::RatesLink;
 use std::alloc::Global;
 use toml::Table;
@@ -18,7 +19,7 @@ use toml::Table;
 fn link(table: &Table, index: usize, processes: &RatesNames) -> Result<RatesLink, RatesTextError>
     ensures { result ≡ link_of (index_by processes.now) index (table_view table.now) }
 {
-    let place = RatesTable::Link(index);
+    let place = RatesTable::Of(Place::Link(index));
     keys::judge(table, place)?;
     let before = fields::index(table, place, RatesKey::From, processes)?;
     let after = fields::index(table, place, RatesKey::To, processes)?;

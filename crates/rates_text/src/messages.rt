@@ -10,6 +10,7 @@ ghost use Rattle.rates_text.specs.Views.{table_views};
 use crate::error::{RatesKey, RatesTable, RatesTextError};
 use crate::names::RatesNames;
 use crate::{fields, keys};
+use instance_text::Place;
 use rates_model::RatesMessage;
 use std::alloc::Global;
 use toml::Table;
@@ -26,7 +27,7 @@ fn message(
     ensures err { IfErr result (IsFaultOfPart (message_of (index_by processes.now) index
         (table_view table.now))) }
 {
-    let place = RatesTable::Message(index);
+    let place = RatesTable::Of(Place::Message(index));
     keys::judge(table, place)?;
     let name = fields::name(alloc, table, place, RatesKey::Name)?;
     let sender = fields::index(table, place, RatesKey::From, processes)?;

@@ -8,6 +8,7 @@ ghost use Rattle.rates_text.specs.Views.{table_views};
 
 use crate::error::{RatesKey, RatesTable, RatesTextError};
 use crate::{fields, keys};
+use instance_text::Place;
 use rates_model::RatesNode;
 use std::alloc::Global;
 use toml::Table;
@@ -17,7 +18,7 @@ fn node(alloc: Global, table: &Table, index: usize) -> Result<RatesNode, RatesTe
     ensures ok { IfOk result (λ n. stated_node index (table_view table.now) ≡ Ok n) }
     ensures err { IfErr result (IsFaultOfPart (stated_node index (table_view table.now))) }
 {
-    let place = RatesTable::Node(index);
+    let place = RatesTable::Of(Place::Node(index));
     keys::judge(table, place)?;
     let name = fields::name(alloc, table, place, RatesKey::Name)?;
     let capacity = fields::number(table, place, RatesKey::Capacity)?;

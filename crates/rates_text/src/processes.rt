@@ -10,6 +10,7 @@ ghost use Rattle.rates_text.specs.Views.{table_views};
 use crate::error::{RatesKey, RatesTable, RatesTextError};
 use crate::names::RatesNames;
 use crate::{fields, keys};
+use instance_text::Place;
 use rates_model::RatesProcess;
 use std::alloc::Global;
 use toml::Table;
@@ -29,7 +30,7 @@ fn process(
     ensures err { IfErr result (IsFaultOfPart (process_of (index_by nodes.now) index
         (table_view table.now))) }
 {
-    let place = RatesTable::Process(index);
+    let place = RatesTable::Of(Place::Process(index));
     keys::judge(table, place)?;
     let name = fields::name(alloc, table, place, RatesKey::Name)?;
     let node = fields::index(table, place, RatesKey::Node, nodes)?;

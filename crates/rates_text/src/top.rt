@@ -8,6 +8,7 @@ ghost use Rattle.rates_text.specs.Views.{tables_view};
 
 use crate::error::{RatesKey, RatesTable, RatesTextError};
 use crate::{fields, keys};
+use instance_text::Place;
 use std::alloc::Global;
 use toml::Table;
 
@@ -27,7 +28,7 @@ pub fn tables_of(alloc: Global, table: &Table) -> Result<Tables<'_>, RatesTextEr
     ensures ok { IfOk result (λ ts. stated_tables (table_view table.now) ≡ Ok (tables_view ts)) }
     ensures err { IfErr result (IsFaultOfPart (stated_tables (table_view table.now))) }
 {
-    let place = RatesTable::Top;
+    let place = RatesTable::Of(Place::Top);
     keys::judge(table, place)?;
     let cluster = fields::table(table, place, RatesKey::Cluster)?;
     let nodes = fields::tables(alloc, table, place, RatesKey::Node)?;

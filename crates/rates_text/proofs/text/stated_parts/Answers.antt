@@ -1,4 +1,4 @@
-use Rattle.std.proofs.Common.{◌≡◌, ◌∙◌, Ok, ap, sym}
+use Rattle.std.proofs.Common.{◌∙◌, Ok, ap, sym}
 use Rattle.rates_model.specs.Parts.{rates_of}
 use Rattle.rates_text.specs.Kinds.{Stated}
 use Rattle.rates_model.specs.Rates.{Rates}
