@@ -1,5 +1,5 @@
 -- The first that lacks among several.
-use Rattle.std.proofs.Common.{◌≡◌, ◌↔◌, ℕ, ◌<◌, ◌≤◌, Bool, false, IsTrue, List, arith, inl, inr, length, slice_index, subst}
+use Rattle.std.proofs.Common.{◌≡◌, ◌↔◌, ℕ, ◌<◌, ◌≤◌, Bool, false, IsTrue, arith, inl, inr}
 use Rattle.std.proofs.lemmas.Bool.{both_ways, cases_lt}
 use Rattle.ttp_model.specs.Instance.{Instance}
 use Rattle.sought_plans.specs.Dominance.{IsSentTo}
