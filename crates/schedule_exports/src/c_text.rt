@@ -1,7 +1,7 @@
 //! How are the loads of nodes written in C?
 
 use crate::loads::{NodeLoad, Run, Turn};
-use crate::origin::{Origin, Sum};
+use crate::origin::{Origin, tell_sum};
 use medl_tables::Entry;
 use plan_reasons::Cycle;
 use sentences::Word::{Number, Text};
@@ -56,92 +56,60 @@ extern const struct tt_node tt_nodes[TT_LOADED];
 impl<'a> fmt::Display for CText<'a> {
     fn fmt<W: fmt::Write>(&self, f: &mut fmt::Formatter<W>) -> fmt::Result {
         let (instance, loads) = (self.instance, self.loads);
-        write!(f, "{}{STRUCTURES}\n", Front { text: *self })?;
+        tell_front(f, self)?;
+        f.write_str(STRUCTURES)?;
+        f.write_str("\n")?;
         for load in loads {
-            write!(f, "{}", Arrays { instance, load })?;
+            tell_arrays(f, instance, load)?;
         }
-        writeln!(f, "const struct tt_node tt_nodes[TT_LOADED] = {{")?;
+        f.write_str("const struct tt_node tt_nodes[TT_LOADED] = {\n")?;
         for load in loads {
-            write!(f, "{}", Line { instance, load })?;
+            tell_line(f, instance, load)?;
         }
-        writeln!(f, "}};\n#endif")
+        f.write_str("};\n#endif\n")
     }
 }
 
-/// What stands in front of the structures.
-#[derive(Clone, Copy)]
-struct Front<'a> {
-    text: CText<'a>,
+/// Tells what stands in front of the structures.
+fn tell_front<W: fmt::Write>(f: &mut fmt::Formatter<W>, text: &CText<'_>) -> fmt::Result {
+    tell_comment(f, text.origin)?;
+    f.write_str("#ifndef TT_SCHEDULE\n#define TT_SCHEDULE\n#include <stdint.h>\n\n")?;
+    tell_measures(f, text)?;
+    tell_constants(f, text.instance, Part::Nodes)?;
+    tell_constants(f, text.instance, Part::Processes)?;
+    tell_constants(f, text.instance, Part::Messages)
 }
 
-impl<'a> fmt::Display for Front<'a> {
-    fn fmt<W: fmt::Write>(&self, f: &mut fmt::Formatter<W>) -> fmt::Result {
-        let (text, instance) = (self.text, self.text.instance);
-        let (origin, measures) = (text.origin, Measures { text });
-        let part = Part::Nodes;
-        let nodes = Constants { instance, part };
-        let part = Part::Processes;
-        let processes = Constants { instance, part };
-        let part = Part::Messages;
-        let messages = Constants { instance, part };
-        let guard = "#ifndef TT_SCHEDULE\n#define TT_SCHEDULE\n#include <stdint.h>\n";
-        writeln!(f, "{}{guard}", Comment { origin })?;
-        write!(f, "{measures}{nodes}{processes}{messages}")
-    }
+/// Tells what stands in front of all.
+fn tell_comment<W: fmt::Write>(f: &mut fmt::Formatter<W>, origin: &Origin) -> fmt::Result {
+    tell(
+        f,
+        "/* What nodes are loaded with, by `ttplan schedule --format c`, of a valid plan.\n   delay {} ticks\n",
+        &[Number(origin.delay)],
+    )?;
+    f.write_str("   instance SHA-256 ")?;
+    tell_sum(f, &origin.instance)?;
+    f.write_str("\n   plan     SHA-256 ")?;
+    tell_sum(f, &origin.plan)?;
+    f.write_str("\n   It defines tt_nodes; with TT_DECLARATIONS defined it only declares it. */\n")
 }
 
-/// What stands in front of all.
-#[derive(Clone, Copy)]
-struct Comment<'a> {
-    origin: &'a Origin,
-}
-
-impl<'a> fmt::Display for Comment<'a> {
-    fn fmt<W: fmt::Write>(&self, f: &mut fmt::Formatter<W>) -> fmt::Result {
-        let delay = self.origin.delay;
-        let instance = Sum {
-            bytes: &self.origin.instance,
-        };
-        let plan = Sum {
-            bytes: &self.origin.plan,
-        };
-        writeln!(
-            f,
-            "/* What nodes are loaded with, by `ttplan schedule --format c`, of a valid plan."
-        )?;
-        writeln!(f, "   delay {delay} ticks")?;
-        writeln!(f, "   instance SHA-256 {instance}")?;
-        writeln!(f, "   plan     SHA-256 {plan}")?;
-        writeln!(
-            f,
-            "   It defines tt_nodes; with TT_DECLARATIONS defined it only declares it. */"
-        )
-    }
-}
-
-/// The numbers of the cycle.
-#[derive(Clone, Copy)]
-struct Measures<'a> {
-    text: CText<'a>,
-}
-
-impl<'a> fmt::Display for Measures<'a> {
-    fn fmt<W: fmt::Write>(&self, f: &mut fmt::Formatter<W>) -> fmt::Result {
-        let (text, cycle) = (self.text, self.text.cycle);
-        let numbers = [
-            Number(text.origin.delay),
-            Number(cycle.round),
-            Number(u64::from(cycle.rounds)),
-            Number(cycle.next),
-            Number(u64::from(text.instance.cluster().channels)),
-            Number(text.loads.len() as u64),
-        ];
-        tell(
-            f,
-            "#define TT_DELAY {}\n#define TT_ROUND {}\n#define TT_ROUNDS {}\n#define TT_CYCLE {}\n#define TT_CHANNELS {}\n#define TT_LOADED {}\n",
-            &numbers,
-        )
-    }
+/// Tells the numbers of the cycle.
+fn tell_measures<W: fmt::Write>(f: &mut fmt::Formatter<W>, text: &CText<'_>) -> fmt::Result {
+    let cycle = text.cycle;
+    let numbers = [
+        Number(text.origin.delay),
+        Number(cycle.round),
+        Number(u64::from(cycle.rounds)),
+        Number(cycle.next),
+        Number(u64::from(text.instance.cluster().channels)),
+        Number(text.loads.len() as u64),
+    ];
+    tell(
+        f,
+        "#define TT_DELAY {}\n#define TT_ROUND {}\n#define TT_ROUNDS {}\n#define TT_CYCLE {}\n#define TT_CHANNELS {}\n#define TT_LOADED {}\n",
+        &numbers,
+    )
 }
 
 /// What one of a list is called in names of constants, and all of it.
@@ -164,172 +132,114 @@ fn name_at(instance: &Instance, part: Part, k: usize) -> &str {
     }
 }
 
-/// The constants of a list.
-#[derive(Clone, Copy)]
-struct Constants<'a> {
-    instance: &'a Instance,
+/// Tells the constants of a list.
+fn tell_constants<W: fmt::Write>(
+    f: &mut fmt::Formatter<W>,
+    instance: &Instance,
     part: Part,
+) -> fmt::Result {
+    f.write_str("\n")?;
+    tell_numbers(f, instance, part)?;
+    tell_names(f, instance, part)
 }
 
-impl<'a> fmt::Display for Constants<'a> {
-    fn fmt<W: fmt::Write>(&self, f: &mut fmt::Formatter<W>) -> fmt::Result {
-        let (instance, part) = (self.instance, self.part);
-        write!(
-            f,
-            "\n{}{}",
-            Numbers { instance, part },
-            Names { instance, part }
-        )
-    }
-}
-
-/// The number of each name of a list.
-#[derive(Clone, Copy)]
-struct Numbers<'a> {
-    instance: &'a Instance,
+/// Tells the number of each name of a list.
+fn tell_numbers<W: fmt::Write>(
+    f: &mut fmt::Formatter<W>,
+    instance: &Instance,
     part: Part,
-}
-
-impl<'a> fmt::Display for Numbers<'a> {
-    fn fmt<W: fmt::Write>(&self, f: &mut fmt::Formatter<W>) -> fmt::Result {
-        let (one, all) = words_of(self.part);
-        let count = self.instance.name_count(self.part);
-        tell(f, "#define TT_{} {}\n", &[Text(all), Number(count as u64)])?;
-        for k in 0..count {
-            let name = name_at(self.instance, self.part, k);
-            let words = [Text(one), Text(name), Number(k as u64)];
-            tell(f, "#define TT_{}_{} {}\n", &words)?;
-        }
-        Ok(())
+) -> fmt::Result {
+    let (one, all) = words_of(part);
+    let count = instance.name_count(part);
+    tell(f, "#define TT_{} {}\n", &[Text(all), Number(count as u64)])?;
+    for k in 0..count {
+        let name = name_at(instance, part, k);
+        let words = [Text(one), Text(name), Number(k as u64)];
+        tell(f, "#define TT_{}_{} {}\n", &words)?;
     }
+    Ok(())
 }
 
-/// The names of a list, as texts behind one another.
-#[derive(Clone, Copy)]
-struct Names<'a> {
-    instance: &'a Instance,
+/// Tells the names of a list, as texts behind one another.
+fn tell_names<W: fmt::Write>(
+    f: &mut fmt::Formatter<W>,
+    instance: &Instance,
     part: Part,
-}
-
-impl<'a> fmt::Display for Names<'a> {
-    fn fmt<W: fmt::Write>(&self, f: &mut fmt::Formatter<W>) -> fmt::Result {
-        let (_, all) = words_of(self.part);
-        writeln!(f, "#define TT_NAMES_OF_{all} \\")?;
-        for k in 0..self.instance.name_count(self.part) {
-            let name = name_at(self.instance, self.part, k);
-            writeln!(f, "    \"{name}\", \\")?;
-        }
-        writeln!(f)
+) -> fmt::Result {
+    let (_, all) = words_of(part);
+    tell(f, "#define TT_NAMES_OF_{} \\\n", &[Text(all)])?;
+    for k in 0..instance.name_count(part) {
+        let name = name_at(instance, part, k);
+        tell(f, "    \"{}\", \\\n", &[Text(name)])?;
     }
+    f.write_str("\n")
 }
 
-/// The arrays of a node.
-#[derive(Clone, Copy)]
-struct Arrays<'a> {
-    instance: &'a Instance,
-    load: &'a NodeLoad<'a>,
-}
-
-impl<'a> fmt::Display for Arrays<'a> {
-    fn fmt<W: fmt::Write>(&self, f: &mut fmt::Formatter<W>) -> fmt::Result {
-        let (instance, node) = (
-            self.instance,
-            self.instance.node_name(self.load.node as usize),
-        );
-        let (runs, turns) = (self.load.runs.as_slice(), self.load.turns.as_slice());
-        write!(
-            f,
-            "{}",
-            Runs {
-                instance,
-                node,
-                runs
-            }
-        )?;
-        for turn in turns {
-            write!(
-                f,
-                "{}",
-                Frame {
-                    instance,
-                    node,
-                    turn: *turn
-                }
-            )?;
-        }
-        write!(
-            f,
-            "{}",
-            Slots {
-                instance,
-                node,
-                turns
-            }
-        )
+/// Tells the arrays of a node.
+fn tell_arrays<W: fmt::Write>(
+    f: &mut fmt::Formatter<W>,
+    instance: &Instance,
+    load: &NodeLoad<'_>,
+) -> fmt::Result {
+    let node = instance.node_name(load.node as usize);
+    tell_runs(f, instance, node, load.runs.as_slice())?;
+    for turn in load.turns.as_slice() {
+        tell_frame(f, instance, node, *turn)?;
     }
+    tell_slots(f, instance, node, load.turns.as_slice())
 }
 
-/// The array of a node's processes, where it has any.
-#[derive(Clone, Copy)]
-struct Runs<'a> {
-    instance: &'a Instance,
-    node: &'a str,
-    runs: &'a [Run],
-}
-
-impl<'a> fmt::Display for Runs<'a> {
-    fn fmt<W: fmt::Write>(&self, f: &mut fmt::Formatter<W>) -> fmt::Result {
-        let node = self.node;
-        if self.runs.is_empty() {
-            return Ok(());
-        }
-        tell(
-            f,
-            "static const struct tt_process tt_processes_{}[] = {\n",
-            &[Text(node)],
-        )?;
-        for run in self.runs {
-            let words = [
-                Text(self.instance.process_name(run.process as usize)),
-                Number(u64::from(run.start)),
-                Number(run.end),
-            ];
-            tell(f, "    { TT_PROCESS_{}, {}, {} },\n", &words)?;
-        }
-        f.write_str("};\n\n")
+/// Tells the array of a node's processes, where it has any.
+fn tell_runs<W: fmt::Write>(
+    f: &mut fmt::Formatter<W>,
+    instance: &Instance,
+    node: &str,
+    runs: &[Run],
+) -> fmt::Result {
+    if runs.is_empty() {
+        return Ok(());
     }
-}
-
-/// The array of what a frame carries for a node, where it carries anything.
-#[derive(Clone, Copy)]
-struct Frame<'a> {
-    instance: &'a Instance,
-    node: &'a str,
-    turn: Turn<'a>,
-}
-
-impl<'a> fmt::Display for Frame<'a> {
-    fn fmt<W: fmt::Write>(&self, f: &mut fmt::Formatter<W>) -> fmt::Result {
-        let (node, row) = (self.node, self.turn.row);
-        let (round, position, entries) = (row.round, row.position, row.messages.as_slice());
-        if entries.is_empty() {
-            return Ok(());
-        }
+    tell(
+        f,
+        "static const struct tt_process tt_processes_{}[] = {\n",
+        &[Text(node)],
+    )?;
+    for run in runs {
         let words = [
-            Number(u64::from(round)),
-            Number(u64::from(position)),
-            Text(node),
+            Text(instance.process_name(run.process as usize)),
+            Number(u64::from(run.start)),
+            Number(run.end),
         ];
-        tell(
-            f,
-            "static const struct tt_message tt_frame_{}_{}_{}[] = {\n",
-            &words,
-        )?;
-        for entry in entries {
-            tell_carried(f, self.instance, *entry)?;
-        }
-        f.write_str("};\n\n")
+        tell(f, "    { TT_PROCESS_{}, {}, {} },\n", &words)?;
     }
+    f.write_str("};\n\n")
+}
+
+/// Tells the array of what a frame carries for a node, where it carries anything.
+fn tell_frame<W: fmt::Write>(
+    f: &mut fmt::Formatter<W>,
+    instance: &Instance,
+    node: &str,
+    turn: Turn<'_>,
+) -> fmt::Result {
+    let entries = turn.row.messages.as_slice();
+    if entries.is_empty() {
+        return Ok(());
+    }
+    let words = [
+        Number(u64::from(turn.row.round)),
+        Number(u64::from(turn.row.position)),
+        Text(node),
+    ];
+    tell(
+        f,
+        "static const struct tt_message tt_frame_{}_{}_{}[] = {\n",
+        &words,
+    )?;
+    for entry in entries {
+        tell_carried(f, instance, *entry)?;
+    }
+    f.write_str("};\n\n")
 }
 
 /// How many bytes a message has: none where it isn't there.
@@ -355,30 +265,25 @@ fn tell_carried<W: fmt::Write>(
     tell(f, "    { TT_MESSAGE_{}, {}, {}, {} },\n", &words)
 }
 
-/// The array of the cycle's slots, where there are any.
-#[derive(Clone, Copy)]
-struct Slots<'a> {
-    instance: &'a Instance,
-    node: &'a str,
-    turns: &'a [Turn<'a>],
-}
-
-impl<'a> fmt::Display for Slots<'a> {
-    fn fmt<W: fmt::Write>(&self, f: &mut fmt::Formatter<W>) -> fmt::Result {
-        let (instance, node) = (self.instance, self.node);
-        if self.turns.is_empty() {
-            return Ok(());
-        }
-        tell(
-            f,
-            "static const struct tt_slot tt_slots_{}[] = {\n",
-            &[Text(node)],
-        )?;
-        for turn in self.turns {
-            tell_slot(f, instance, node, *turn)?;
-        }
-        f.write_str("};\n\n")
+/// Tells the array of the cycle's slots, where there are any.
+fn tell_slots<W: fmt::Write>(
+    f: &mut fmt::Formatter<W>,
+    instance: &Instance,
+    node: &str,
+    turns: &[Turn<'_>],
+) -> fmt::Result {
+    if turns.is_empty() {
+        return Ok(());
     }
+    tell(
+        f,
+        "static const struct tt_slot tt_slots_{}[] = {\n",
+        &[Text(node)],
+    )?;
+    for turn in turns {
+        tell_slot(f, instance, node, *turn)?;
+    }
+    f.write_str("};\n\n")
 }
 
 /// Tells a slot of the cycle.
@@ -411,13 +316,6 @@ fn tell_slot<'a, W: fmt::Write>(
     }
 }
 
-/// What tells a node's arrays.
-#[derive(Clone, Copy)]
-struct Line<'a> {
-    instance: &'a Instance,
-    load: &'a NodeLoad<'a>,
-}
-
 /// Tells an array with its length; where it is empty there is none.
 fn tell_array<'n, W: fmt::Write>(
     f: &mut fmt::Formatter<W>,
@@ -435,13 +333,16 @@ fn tell_array<'n, W: fmt::Write>(
     }
 }
 
-impl<'a> fmt::Display for Line<'a> {
-    fn fmt<W: fmt::Write>(&self, f: &mut fmt::Formatter<W>) -> fmt::Result {
-        let node = self.instance.node_name(self.load.node as usize);
-        tell(f, "    { TT_NODE_{}, ", &[Text(node)])?;
-        tell_array(f, "tt_processes", node, self.load.runs.len())?;
-        f.write_str(", ")?;
-        tell_array(f, "tt_slots", node, self.load.turns.len())?;
-        f.write_str(" },\n")
-    }
+/// Tells what tells a node's arrays.
+fn tell_line<W: fmt::Write>(
+    f: &mut fmt::Formatter<W>,
+    instance: &Instance,
+    load: &NodeLoad<'_>,
+) -> fmt::Result {
+    let node = instance.node_name(load.node as usize);
+    tell(f, "    { TT_NODE_{}, ", &[Text(node)])?;
+    tell_array(f, "tt_processes", node, load.runs.len())?;
+    f.write_str(", ")?;
+    tell_array(f, "tt_slots", node, load.turns.len())?;
+    f.write_str(" },\n")
 }

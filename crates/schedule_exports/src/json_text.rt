@@ -2,7 +2,7 @@
 
 use crate::c_text::bytes_of;
 use crate::loads::{NodeLoad, Run, Turn};
-use crate::origin::{Origin, Sum};
+use crate::origin::{Origin, tell_sum};
 use medl_tables::Entry;
 use plan_reasons::Cycle;
 use sentences::Word::{Number, Text};
@@ -20,7 +20,7 @@ pub struct JsonText<'a> {
 }
 
 /// What stands before an item of a list.
-pub fn comma(k: usize) -> &'static str {
+fn comma(k: usize) -> &'static str {
     if k == 0 { "" } else { "," }
 }
 
@@ -33,146 +33,111 @@ impl<'a> fmt::Display for JsonText<'a> {
             Number(cycle.next),
             Number(u64::from(instance.cluster().channels)),
         ];
-        writeln!(
-            f,
-            "{{\n{},",
-            Made {
-                origin: self.origin
-            }
-        )?;
+        f.write_str("{\n")?;
+        tell_made(f, self.origin)?;
         tell(
             f,
-            "  \"round\": {},\n  \"rounds\": {},\n  \"cycle\": {},\n  \"channels\": {},\n  \"nodes\": [",
+            ",\n  \"round\": {},\n  \"rounds\": {},\n  \"cycle\": {},\n  \"channels\": {},\n  \"nodes\": [",
             &numbers,
         )?;
         for k in 0..loads.len() {
-            let (before, load) = (comma(k), &loads[k]);
-            write!(f, "{before}\n{}", Load { instance, load })?;
+            f.write_str(comma(k))?;
+            tell_load(f, instance, &loads[k])?;
         }
-        writeln!(f, "\n  ]\n}}")
+        f.write_str("\n  ]\n}\n")
     }
 }
 
-/// What it was made of.
-#[derive(Clone, Copy)]
-pub struct Made<'a> {
-    pub origin: &'a Origin,
+/// Tells what it was made of.
+pub fn tell_made<W: fmt::Write>(f: &mut fmt::Formatter<W>, origin: &Origin) -> fmt::Result {
+    tell(f, "  \"delay\": {},\n", &[Number(origin.delay)])?;
+    f.write_str("  \"instance_sha256\": \"")?;
+    tell_sum(f, &origin.instance)?;
+    f.write_str("\",\n  \"plan_sha256\": \"")?;
+    tell_sum(f, &origin.plan)?;
+    f.write_str("\"")
 }
 
-impl<'a> fmt::Display for Made<'a> {
-    fn fmt<W: fmt::Write>(&self, f: &mut fmt::Formatter<W>) -> fmt::Result {
-        let delay = self.origin.delay;
-        let instance = Sum {
-            bytes: &self.origin.instance,
-        };
-        let plan = Sum {
-            bytes: &self.origin.plan,
-        };
-        write!(
-            f,
-            "  \"delay\": {delay},\n  \"instance_sha256\": \"{instance}\",\n  \"plan_sha256\": \"{plan}\""
-        )
-    }
+/// Tells what a node is loaded with.
+fn tell_load<W: fmt::Write>(
+    f: &mut fmt::Formatter<W>,
+    instance: &Instance,
+    load: &NodeLoad<'_>,
+) -> fmt::Result {
+    let name = instance.node_name(load.node as usize);
+    tell(
+        f,
+        "\n    {\n      \"name\": \"{}\",\n      \"processes\": [",
+        &[Text(name)],
+    )?;
+    tell_runs(f, instance, load.runs.as_slice())?;
+    f.write_str("\n      ],\n      \"slots\": [")?;
+    tell_turns(f, instance, load.turns.as_slice())?;
+    f.write_str("\n      ]\n    }")
 }
 
-/// What a node is loaded with.
-#[derive(Clone, Copy)]
-struct Load<'a> {
-    instance: &'a Instance,
-    load: &'a NodeLoad<'a>,
-}
-
-impl<'a> fmt::Display for Load<'a> {
-    fn fmt<W: fmt::Write>(&self, f: &mut fmt::Formatter<W>) -> fmt::Result {
-        let instance = self.instance;
-        let name = instance.node_name(self.load.node as usize);
-        let (runs, turns) = (self.load.runs.as_slice(), self.load.turns.as_slice());
-        write!(
-            f,
-            "    {{\n      \"name\": \"{name}\",\n      \"processes\": ["
-        )?;
-        write!(f, "{}", Runs { instance, runs })?;
-        write!(f, "\n      ],\n      \"slots\": [")?;
-        write!(f, "{}\n      ]\n    }}", Turns { instance, turns })
-    }
-}
-
-/// Processes that run.
-#[derive(Clone, Copy)]
-struct Runs<'a> {
-    instance: &'a Instance,
-    runs: &'a [Run],
-}
-
-impl<'a> fmt::Display for Runs<'a> {
-    fn fmt<W: fmt::Write>(&self, f: &mut fmt::Formatter<W>) -> fmt::Result {
-        let runs = self.runs;
-        for k in 0..runs.len() {
-            let run = runs[k];
-            let words = [
-                Text(comma(k)),
-                Text(self.instance.process_name(run.process as usize)),
-                Number(u64::from(run.start)),
-                Number(run.end),
-            ];
-            tell(
-                f,
-                "{}\n        {\"name\": \"{}\", \"start\": {}, \"end\": {}}",
-                &words,
-            )?;
-        }
-        Ok(())
-    }
-}
-
-/// Slots of the cycle.
-#[derive(Clone, Copy)]
-struct Turns<'a> {
-    instance: &'a Instance,
-    turns: &'a [Turn<'a>],
-}
-
-impl<'a> fmt::Display for Turns<'a> {
-    fn fmt<W: fmt::Write>(&self, f: &mut fmt::Formatter<W>) -> fmt::Result {
-        let (instance, turns) = (self.instance, self.turns);
-        for k in 0..turns.len() {
-            let (before, turn) = (comma(k), turns[k]);
-            write!(f, "{before}\n        {}", SlotObject { instance, turn })?;
-        }
-        Ok(())
-    }
-}
-
-/// A slot of the cycle.
-#[derive(Clone, Copy)]
-struct SlotObject<'a> {
-    instance: &'a Instance,
-    turn: Turn<'a>,
-}
-
-impl<'a> fmt::Display for SlotObject<'a> {
-    fn fmt<W: fmt::Write>(&self, f: &mut fmt::Formatter<W>) -> fmt::Result {
-        let (instance, row) = (self.instance, self.turn.row);
-        let entries = row.messages.as_slice();
+/// Tells processes that run.
+fn tell_runs<W: fmt::Write>(
+    f: &mut fmt::Formatter<W>,
+    instance: &Instance,
+    runs: &[Run],
+) -> fmt::Result {
+    for k in 0..runs.len() {
+        let run = runs[k];
         let words = [
-            Number(u64::from(row.round)),
-            Number(u64::from(row.position)),
-            Text(instance.node_name(row.sender as usize)),
-            Number(self.turn.start),
-            Number(self.turn.end),
-            Number(u64::from(row.capacity)),
+            Text(comma(k)),
+            Text(instance.process_name(run.process as usize)),
+            Number(u64::from(run.start)),
+            Number(run.end),
         ];
         tell(
             f,
-            "{\"round\": {}, \"position\": {}, \"sender\": \"{}\", \"start\": {}, \"end\": {}, \"capacity\": {}, \"messages\": [",
+            "{}\n        {\"name\": \"{}\", \"start\": {}, \"end\": {}}",
             &words,
         )?;
-        for k in 0..entries.len() {
-            f.write_str(comma(k))?;
-            tell_carried(f, instance, entries[k])?;
-        }
-        f.write_str("]}")
     }
+    Ok(())
+}
+
+/// Tells slots of the cycle.
+fn tell_turns<W: fmt::Write>(
+    f: &mut fmt::Formatter<W>,
+    instance: &Instance,
+    turns: &[Turn<'_>],
+) -> fmt::Result {
+    for k in 0..turns.len() {
+        f.write_str(comma(k))?;
+        tell_slot(f, instance, turns[k])?;
+    }
+    Ok(())
+}
+
+/// Tells a slot of the cycle.
+fn tell_slot<W: fmt::Write>(
+    f: &mut fmt::Formatter<W>,
+    instance: &Instance,
+    turn: Turn<'_>,
+) -> fmt::Result {
+    let row = turn.row;
+    let entries = row.messages.as_slice();
+    let words = [
+        Number(u64::from(row.round)),
+        Number(u64::from(row.position)),
+        Text(instance.node_name(row.sender as usize)),
+        Number(turn.start),
+        Number(turn.end),
+        Number(u64::from(row.capacity)),
+    ];
+    tell(
+        f,
+        "\n        {\"round\": {}, \"position\": {}, \"sender\": \"{}\", \"start\": {}, \"end\": {}, \"capacity\": {}, \"messages\": [",
+        &words,
+    )?;
+    for k in 0..entries.len() {
+        f.write_str(comma(k))?;
+        tell_carried(f, instance, entries[k])?;
+    }
+    f.write_str("]}")
 }
 
 /// Tells a message of a frame.

@@ -22,17 +22,10 @@ pub fn sum_of(bytes: &[u8]) -> [u8; 32]
     Sha256::digest(bytes)
 }
 
-/// A sum, as `sha256sum` prints it.
-#[derive(Clone, Copy)]
-pub struct Sum<'a> {
-    pub bytes: &'a [u8],
-}
-
-impl<'a> fmt::Display for Sum<'a> {
-    fn fmt<W: fmt::Write>(&self, f: &mut fmt::Formatter<W>) -> fmt::Result {
-        for byte in self.bytes {
-            write!(f, "{byte:02x}")?;
-        }
-        Ok(())
+/// Tells a sum, as `sha256sum` prints it.
+pub fn tell_sum<W: fmt::Write>(f: &mut fmt::Formatter<W>, sum: &[u8; 32]) -> fmt::Result {
+    for byte in sum {
+        write!(f, "{byte:02x}")?;
     }
+    Ok(())
 }

@@ -1,12 +1,12 @@
 //! How is a cycle written as events of a trace?
 
 use crate::flows::Flow;
-use crate::json_text::{Made, comma};
+use crate::json_text::tell_made;
 use crate::loads::Run;
 use crate::origin::Origin;
 use plan_sheets::Slot;
 use sentences::Word::{Number, Text};
-use sentences::tell;
+use sentences::{Word, tell};
 use std::fmt;
 use ttp_model::Instance;
 
@@ -32,114 +32,91 @@ enum Group {
 #[derive(Clone, Copy)]
 struct Track(Group, u32);
 
-/// As events name it. Viewers take track 0 for an idle one, so these are counted from 1.
-impl fmt::Display for Track {
-    fn fmt<W: fmt::Write>(&self, f: &mut fmt::Formatter<W>) -> fmt::Result {
+impl Track {
+    /// The numbers by which events name it: its group's, and its own. Viewers take track 0 for an idle one, so tracks are counted from 1.
+    fn words(self) -> (Word<'static>, Word<'static>) {
         let group = match self.0 {
             Group::Nodes => 1,
             Group::Channels => 2,
         };
-        let words = [Number(group), Number(u64::from(self.1) + 1)];
-        tell(f, "\"pid\": {}, \"tid\": {}", &words)
+        (Number(group), Number(u64::from(self.1) + 1))
     }
 }
 
 impl<'a> fmt::Display for TraceText<'a> {
     fn fmt<W: fmt::Write>(&self, f: &mut fmt::Formatter<W>) -> fmt::Result {
-        let (instance, origin) = (self.instance, self.origin);
-        writeln!(f, "{{\n\"displayTimeUnit\": \"ms\",")?;
-        writeln!(f, "\"otherData\": {{\n{}\n}},", Made { origin })?;
-        write!(f, "\"traceEvents\": [\n{}", Tracks { instance })?;
-        for run in self.runs {
-            let run = *run;
-            write!(f, ",\n{}", RunEvent { instance, run })?;
-        }
-        for slot in self.slots {
-            write!(f, ",\n{}", SlotEvent { instance, slot })?;
-        }
-        for id in 0..self.flows.len() {
-            let flow = self.flows[id];
-            write!(f, ",\n{}", FlowEvents { instance, id, flow })?;
-        }
-        writeln!(f, "\n]\n}}")
+        f.write_str("{\n\"displayTimeUnit\": \"ms\",\n\"otherData\": {\n")?;
+        tell_made(f, self.origin)?;
+        f.write_str("\n},\n\"traceEvents\": [\n")?;
+        tell_tracks(f, self.instance)?;
+        tell_events(f, self)?;
+        f.write_str("\n]\n}\n")
     }
 }
 
-/// What the tracks are called, and in which order they stand.
-#[derive(Clone, Copy)]
-struct Tracks<'a> {
-    instance: &'a Instance,
-}
-
-impl<'a> fmt::Display for Tracks<'a> {
-    fn fmt<W: fmt::Write>(&self, f: &mut fmt::Formatter<W>) -> fmt::Result {
-        let instance = self.instance;
-        let (group, name) = (Group::Nodes, "nodes");
-        write!(f, "{},\n", GroupName { group, name })?;
-        let (group, name) = (Group::Channels, "bus");
-        write!(f, "{}", GroupName { group, name })?;
-        write!(f, "{}", NodeTracks { instance })?;
-        write!(f, "{}", ChannelTracks { instance })
+/// Tells processes, slots and messages.
+fn tell_events<W: fmt::Write>(f: &mut fmt::Formatter<W>, text: &TraceText<'_>) -> fmt::Result {
+    let instance = text.instance;
+    for run in text.runs {
+        tell_run(f, instance, *run)?;
     }
+    for slot in text.slots {
+        tell_slot(f, instance, slot)?;
+    }
+    for id in 0..text.flows.len() {
+        tell_flow(f, instance, id, text.flows[id])?;
+    }
+    Ok(())
 }
 
-/// What a group of tracks is called.
-#[derive(Clone, Copy)]
-struct GroupName {
+/// Tells what the tracks are called, and in which order they stand.
+fn tell_tracks<W: fmt::Write>(f: &mut fmt::Formatter<W>, instance: &Instance) -> fmt::Result {
+    tell_group(f, Group::Nodes, "nodes")?;
+    f.write_str(",\n")?;
+    tell_group(f, Group::Channels, "bus")?;
+    tell_nodes(f, instance)?;
+    tell_channels(f, instance.cluster().channels)
+}
+
+/// Tells what a group of tracks is called.
+fn tell_group<W: fmt::Write>(
+    f: &mut fmt::Formatter<W>,
     group: Group,
     name: &'static str,
+) -> fmt::Result {
+    let (pid, tid) = Track(group, 0).words();
+    tell(
+        f,
+        "{\"ph\": \"M\", \"name\": \"process_name\", \"pid\": {}, \"tid\": {}, \"args\": {\"name\": \"{}\"}}",
+        &[pid, tid, Text(name)],
+    )
 }
 
-impl fmt::Display for GroupName {
-    fn fmt<W: fmt::Write>(&self, f: &mut fmt::Formatter<W>) -> fmt::Result {
-        let (track, name) = (Track(self.group, 0), self.name);
-        write!(
+/// Tells the tracks of nodes, by their names and in the instance's order.
+fn tell_nodes<W: fmt::Write>(f: &mut fmt::Formatter<W>, instance: &Instance) -> fmt::Result {
+    for k in 0..instance.nodes().len() {
+        let (pid, tid) = Track(Group::Nodes, k as u32).words();
+        let (name, place) = (Text(instance.node_name(k)), Number(k as u64));
+        tell(
             f,
-            "{{\"ph\": \"M\", \"name\": \"process_name\", {track}, \"args\": {{\"name\": \"{name}\"}}}}"
-        )
+            ",\n{\"ph\": \"M\", \"name\": \"thread_name\", \"pid\": {}, \"tid\": {}, \"args\": {\"name\": \"{}\"}},\n{\"ph\": \"M\", \"name\": \"thread_sort_index\", \"pid\": {}, \"tid\": {}, \"args\": {\"sort_index\": {}}}",
+            &[pid, tid, name, pid, tid, place],
+        )?;
     }
+    Ok(())
 }
 
-/// The tracks of nodes, by their names and in the instance's order.
-#[derive(Clone, Copy)]
-struct NodeTracks<'a> {
-    instance: &'a Instance,
-}
-
-impl<'a> fmt::Display for NodeTracks<'a> {
-    fn fmt<W: fmt::Write>(&self, f: &mut fmt::Formatter<W>) -> fmt::Result {
-        for k in 0..self.instance.nodes().len() {
-            let (track, name) = (Track(Group::Nodes, k as u32), self.instance.node_name(k));
-            write!(
-                f,
-                ",\n{{\"ph\": \"M\", \"name\": \"thread_name\", {track}, \"args\": {{\"name\": \"{name}\"}}}}"
-            )?;
-            write!(
-                f,
-                ",\n{{\"ph\": \"M\", \"name\": \"thread_sort_index\", {track}, \"args\": {{\"sort_index\": {k}}}}}"
-            )?;
-        }
-        Ok(())
+/// Tells the tracks of so many channels.
+fn tell_channels<W: fmt::Write>(f: &mut fmt::Formatter<W>, channels: u32) -> fmt::Result {
+    for c in 0..channels {
+        let (pid, tid) = Track(Group::Channels, c).words();
+        tell(
+            f,
+            ",\n{\"ph\": \"M\", \"name\": \"thread_name\", \"pid\": {}, \"tid\": {}, \"args\": {\"name\": \"channel {}\"}}",
+            &[pid, tid, Number(u64::from(c))],
+        )?;
     }
-}
-
-/// The tracks of channels.
-#[derive(Clone, Copy)]
-struct ChannelTracks<'a> {
-    instance: &'a Instance,
-}
-
-impl<'a> fmt::Display for ChannelTracks<'a> {
-    fn fmt<W: fmt::Write>(&self, f: &mut fmt::Formatter<W>) -> fmt::Result {
-        for c in 0..self.instance.cluster().channels {
-            let track = Track(Group::Channels, c);
-            write!(
-                f,
-                ",\n{{\"ph\": \"M\", \"name\": \"thread_name\", {track}, \"args\": {{\"name\": \"channel {c}\"}}}}"
-            )?;
-        }
-        Ok(())
-    }
+    Ok(())
 }
 
 /// The node of a process; one that isn't there where there is none.
@@ -150,57 +127,52 @@ fn place_of(instance: &Instance, p: u32) -> u32 {
     }
 }
 
-/// A process that runs, on its node's track.
-#[derive(Clone, Copy)]
-struct RunEvent<'a> {
-    instance: &'a Instance,
+/// Tells a process that runs, on its node's track.
+fn tell_run<W: fmt::Write>(
+    f: &mut fmt::Formatter<W>,
+    instance: &Instance,
     run: Run,
+) -> fmt::Result {
+    let name = instance.process_name(run.process as usize);
+    let (pid, tid) = Track(Group::Nodes, place_of(instance, run.process)).words();
+    let (start, ticks) = (run.start, run.end.saturating_sub(u64::from(run.start)));
+    tell(
+        f,
+        ",\n{\"ph\": \"X\", \"cat\": \"process\", \"name\": \"{}\", \"pid\": {}, \"tid\": {}, \"ts\": {}, \"dur\": {}}",
+        &[
+            Text(name),
+            pid,
+            tid,
+            Number(u64::from(start)),
+            Number(ticks),
+        ],
+    )
 }
 
-impl<'a> fmt::Display for RunEvent<'a> {
-    fn fmt<W: fmt::Write>(&self, f: &mut fmt::Formatter<W>) -> fmt::Result {
-        let Run {
-            process,
-            start,
-            end,
-        } = self.run;
-        let track = Track(Group::Nodes, place_of(self.instance, process));
-        let ticks = end.saturating_sub(u64::from(start));
-        let name = self.instance.process_name(process as usize);
-        write!(
-            f,
-            "{{\"ph\": \"X\", \"cat\": \"process\", \"name\": \"{name}\", {track}, \"ts\": {start}, \"dur\": {ticks}}}"
-        )
+/// Tells a slot of the cycle, on its channel's track.
+fn tell_slot<W: fmt::Write>(
+    f: &mut fmt::Formatter<W>,
+    instance: &Instance,
+    slot: &Slot,
+) -> fmt::Result {
+    let node = instance.node_name(slot.node as usize);
+    tell(
+        f,
+        ",\n{\"ph\": \"X\", \"cat\": \"slot\", \"name\": \"{}",
+        &[Text(node)],
+    )?;
+    for m in slot.messages.as_slice() {
+        tell(f, " {}", &[Text(instance.message_name(*m as usize))])?;
     }
+    tell_times(f, slot)
 }
 
-/// A slot of the cycle, on its channel's track.
-#[derive(Clone, Copy)]
-struct SlotEvent<'a> {
-    instance: &'a Instance,
-    slot: &'a Slot,
-}
-
-impl<'a> fmt::Display for SlotEvent<'a> {
-    fn fmt<W: fmt::Write>(&self, f: &mut fmt::Formatter<W>) -> fmt::Result {
-        let slot = self.slot;
-        let node = self.instance.node_name(slot.node as usize);
-        tell(
-            f,
-            "{\"ph\": \"X\", \"cat\": \"slot\", \"name\": \"{}",
-            &[Text(node)],
-        )?;
-        for m in slot.messages.as_slice() {
-            tell(f, " {}", &[Text(self.instance.message_name(*m as usize))])?;
-        }
-        write!(f, "\", {}, ", Track(Group::Channels, slot.channel))?;
-        tell_times(f, slot)
-    }
-}
-
-/// Tells when a slot is, and its frame, and how full that is.
+/// Tells on which track a slot is, and when, and its frame, and how full that is.
 fn tell_times<W: fmt::Write>(f: &mut fmt::Formatter<W>, slot: &Slot) -> fmt::Result {
+    let (pid, tid) = Track(Group::Channels, slot.channel).words();
     let numbers = [
+        pid,
+        tid,
         Number(slot.start),
         Number(slot.end.saturating_sub(slot.start)),
         Number(u64::from(slot.round)),
@@ -211,42 +183,68 @@ fn tell_times<W: fmt::Write>(f: &mut fmt::Formatter<W>, slot: &Slot) -> fmt::Res
     ];
     tell(
         f,
-        "\"ts\": {}, \"dur\": {}, \"args\": {\"round\": {}, \"frame\": {}, \"frame_end\": {}, \"capacity\": {}, \"used\": {}}}",
+        "\", \"pid\": {}, \"tid\": {}, \"ts\": {}, \"dur\": {}, \"args\": {\"round\": {}, \"frame\": {}, \"frame_end\": {}, \"capacity\": {}, \"used\": {}}}",
         &numbers,
     )
 }
 
-/// A message on its way: an arrow from the last tick of its sender through its slot to its receiver.
+/// A step of a flow: its letter, with what else the event says, the track on which it is, and its tick.
 #[derive(Clone, Copy)]
-struct FlowEvents<'a> {
-    instance: &'a Instance,
-    id: usize,
-    flow: Flow,
+struct Step {
+    phase: &'static str,
+    track: Track,
+    tick: u64,
 }
 
-impl<'a> fmt::Display for FlowEvents<'a> {
-    fn fmt<W: fmt::Write>(&self, f: &mut fmt::Formatter<W>) -> fmt::Result {
-        let (id, flow, instance) = (self.id, self.flow, self.instance);
-        let name = instance.message_name(flow.message as usize);
-        let sender = match instance.messages().get(flow.message as usize) {
-            Some(message) => message.sender,
-            None => u32::MAX,
-        };
-        let from = Track(Group::Nodes, place_of(instance, sender));
-        let over = Track(Group::Channels, flow.channel);
-        let to = Track(Group::Nodes, place_of(instance, flow.receiver));
-        let (last, slot, needed) = (flow.sent.saturating_sub(1), flow.slot, flow.needed);
-        writeln!(
-            f,
-            "{{\"ph\": \"s\", \"cat\": \"message\", \"name\": \"{name}\", \"id\": {id}, {from}, \"ts\": {last}}},"
-        )?;
-        writeln!(
-            f,
-            "{{\"ph\": \"t\", \"cat\": \"message\", \"name\": \"{name}\", \"id\": {id}, {over}, \"ts\": {slot}}},"
-        )?;
-        write!(
-            f,
-            "{{\"ph\": \"f\", \"bp\": \"e\", \"cat\": \"message\", \"name\": \"{name}\", \"id\": {id}, {to}, \"ts\": {needed}}}"
-        )
+/// Tells a step of the flow of this number, which has a message's name.
+fn tell_step<W: fmt::Write>(
+    f: &mut fmt::Formatter<W>,
+    name: &str,
+    id: usize,
+    step: Step,
+) -> fmt::Result {
+    let (pid, tid) = step.track.words();
+    let (phase, id) = (Text(step.phase), Number(id as u64));
+    tell(
+        f,
+        ",\n{\"ph\": {}, \"cat\": \"message\", \"name\": \"{}\", \"id\": {}, \"pid\": {}, \"tid\": {}, \"ts\": {}}",
+        &[phase, Text(name), id, pid, tid, Number(step.tick)],
+    )
+}
+
+/// The sender of a message; one that isn't there where there is none.
+fn sender_of(instance: &Instance, m: u32) -> u32 {
+    match instance.messages().get(m as usize) {
+        Some(message) => message.sender,
+        None => u32::MAX,
     }
+}
+
+/// Tells a message on its way: an arrow from the last tick of its sender through its slot to its receiver.
+fn tell_flow<W: fmt::Write>(
+    f: &mut fmt::Formatter<W>,
+    instance: &Instance,
+    id: usize,
+    flow: Flow,
+) -> fmt::Result {
+    let name = instance.message_name(flow.message as usize);
+    let sender = sender_of(instance, flow.message);
+    let from = Step {
+        phase: "\"s\"",
+        track: Track(Group::Nodes, place_of(instance, sender)),
+        tick: flow.sent.saturating_sub(1),
+    };
+    let over = Step {
+        phase: "\"t\"",
+        track: Track(Group::Channels, flow.channel),
+        tick: flow.slot,
+    };
+    let to = Step {
+        phase: "\"f\", \"bp\": \"e\"",
+        track: Track(Group::Nodes, place_of(instance, flow.receiver)),
+        tick: u64::from(flow.needed),
+    };
+    tell_step(f, name, id, from)?;
+    tell_step(f, name, id, over)?;
+    tell_step(f, name, id, to)
 }
