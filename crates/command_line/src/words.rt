@@ -7,7 +7,7 @@ use std::io;
 use std::rt::Env;
 
 /// In which form an answer is written.
-#[derive(Clone, Copy, Debug)]
+#[derive(Clone, Copy)]
 pub enum AnswerForm {
     Text,
     /// As one JSON object.
@@ -15,7 +15,7 @@ pub enum AnswerForm {
 }
 
 /// What to do with an instance and a plan.
-#[derive(Debug, Drop)]
+#[derive(Drop)]
 pub enum Task<'a> {
     /// Verify the plan for the instance.
     Verify(AnswerForm),
@@ -32,7 +32,7 @@ pub enum Task<'a> {
 }
 
 /// What to tell of the rounds of a plan's cycle.
-#[derive(Clone, Copy, Debug)]
+#[derive(Clone, Copy)]
 pub enum RoundsTask {
     /// How they lie in a period of so many ticks, 1 to 1,000,000.
     Period(u64),
@@ -41,7 +41,7 @@ pub enum RoundsTask {
 }
 
 /// What is to be explained.
-#[derive(Clone, Copy, Debug)]
+#[derive(Clone, Copy)]
 pub enum Explained<'a> {
     /// The instance alone.
     Instance,
@@ -52,7 +52,7 @@ pub enum Explained<'a> {
 }
 
 /// How much the searches of a command may take.
-#[derive(Clone, Copy, Debug)]
+#[derive(Clone, Copy)]
 pub struct Effort {
     /// How many workers search, 1 to 16.
     pub workers: u32,
@@ -65,7 +65,7 @@ pub struct Effort {
 }
 
 /// A part of the leaves of a certificate that are open.
-#[derive(Clone, Copy, Debug)]
+#[derive(Clone, Copy)]
 pub struct Part {
     /// Of the leaves, numbered from 0, those with this number modulo the count.
     pub number: u32,
@@ -74,7 +74,7 @@ pub struct Part {
 }
 
 /// From which certificate a search goes on.
-#[derive(Clone, Copy, Debug)]
+#[derive(Clone, Copy)]
 pub struct Continued<'a> {
     pub certificate: &'a str,
     /// Which of its open leaves are worked; all where there is none.
@@ -82,7 +82,7 @@ pub struct Continued<'a> {
 }
 
 /// How an instance is to be searched.
-#[derive(Clone, Copy, Debug)]
+#[derive(Clone, Copy)]
 pub struct Search<'a> {
     pub instance: &'a str,
     /// Where the plan stands with which it begins.
@@ -103,7 +103,7 @@ pub struct Search<'a> {
 }
 
 /// What several searches of an instance are to answer.
-#[derive(Clone, Copy, Debug)]
+#[derive(Clone, Copy)]
 pub struct Question<'a> {
     /// The file of the instance, or of a cluster of several rates.
     pub instance: &'a str,
@@ -116,7 +116,7 @@ pub struct Question<'a> {
 }
 
 /// How it is to be found out why an instance has no plan.
-#[derive(Clone, Copy, Debug)]
+#[derive(Clone, Copy)]
 pub struct Why<'a> {
     pub question: Question<'a>,
     /// Whether it is to be told how late all would have to be.
@@ -124,7 +124,7 @@ pub struct Why<'a> {
 }
 
 /// How early processes of an instance are to end.
-#[derive(Debug, Drop)]
+#[derive(Drop)]
 pub struct Limit<'a> {
     pub question: Question<'a>,
     /// The names of these processes, in the order of the words.
@@ -132,7 +132,7 @@ pub struct Limit<'a> {
 }
 
 /// By how much longer processes of an instance may run.
-#[derive(Debug, Drop)]
+#[derive(Drop)]
 pub struct Margin<'a> {
     pub question: Question<'a>,
     /// The names of these processes, in the order of the words; all where there are none.
@@ -144,7 +144,7 @@ pub struct Margin<'a> {
 }
 
 /// How old what a chain of a cluster of several rates carries has to be.
-#[derive(Clone, Copy, Debug)]
+#[derive(Clone, Copy)]
 pub struct Age<'a> {
     pub question: Question<'a>,
     /// The chain's name.
@@ -152,7 +152,7 @@ pub struct Age<'a> {
 }
 
 /// Which certificates of an instance are to be joined.
-#[derive(Debug, Drop)]
+#[derive(Drop)]
 pub struct Joining<'a> {
     pub instance: &'a str,
     /// The files of these certificates, in the order of the words.
@@ -162,7 +162,7 @@ pub struct Joining<'a> {
 }
 
 /// A command, with the files that it names.
-#[derive(Debug, Drop)]
+#[derive(Drop)]
 pub enum Request<'a> {
     /// Do something with the plan of one file for the instance of another.
     OnFiles {
@@ -240,7 +240,7 @@ pub enum Request<'a> {
 
 /// The program's version, and those of the texts that it reads and writes.
 pub const VERSION: &str =
-    "ttplan 0.1.0\ntexts: ttplan 1, ttplan 2, ttcert 1, ttcert 2, ttmedl 1, ttmedl 2, ttguard 1, ttreplay 1, ttperiod 1, ttwhy 1\n";
+    "ttplan 0.1.0\ntexts: ttplan 1, ttplan 2, ttcert 1, ttcert 2, ttmedl 1, ttmedl 2, ttguard 1, ttreplay 1, ttperiod 1, ttrepeat 1, ttwhy 1\n";
 
 /// The words that the program was called with. The error's kind is `InvalidData` where one is not UTF-8.
 pub fn all(rt: &(impl Env + AllocGlobal)) -> io::Result<Vec<String>> {
