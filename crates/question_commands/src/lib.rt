@@ -10,14 +10,17 @@ mod margin_texts;
 mod margins;
 mod meant;
 mod names;
+mod objects;
 mod telling;
 mod why;
 mod why_texts;
 mod words;
 
+pub use json_answers::{LIMIT, MARGIN, WHY};
 pub use limit_texts::Beside;
 pub use limits::limit_run;
 pub use margins::{Terms, margin_run};
+pub use objects::{limit_json, margin_json, why_json};
 pub use plan_questions::{Asking, Gate, Options, Scale};
 pub use why::why_run;
 pub use why_texts::Wanted;

@@ -2,15 +2,14 @@
 
 ghost use Rattle.std.specs.Prelude.{◌≤◌};
 
-use crate::files::{FileFault, Files, Named};
-use crate::hints::{Said, told};
-use crate::judging::as_json;
-use crate::searches::{Sheet, lines_for, options_of, patient_for};
+use crate::searches::{lines_for, options_of, patient_for};
 use command_line::{AnswerForm, Asks, Margin};
 use command_streams::End;
-use json_commands::{Asking, Beside, MARGIN, Scale, Terms, margin_json, margin_run};
-use search_watching::{Follower, Searches};
-use solve_command::FreeGate;
+use file_commands::files::{FileFault, Files, Named, Sheet};
+use file_commands::hints::{Said, told};
+use file_commands::judging::as_json;
+use question_commands::{Asking, Beside, MARGIN, Scale, Terms, margin_json, margin_run};
+use solve_command::{Follower, FreeGate, Searches};
 use std::marker::Sync;
 use std::sync::Wait;
 use std::thread::Threads;

@@ -4,35 +4,26 @@
 ghost use Rattle.command_line.specs.Requests.{IsSound};
 
 mod ages;
-mod files;
-mod hints;
-mod joining;
-mod judging;
 mod longer;
 mod plan_file;
-mod rates;
 mod searches;
 mod version;
 
-use crate::hints::{Said, told};
 pub use age_command::{AgeEnd, age_run, age_status, report_age};
 use command_line::{Request, refuse, request_in};
 pub use command_streams::{End, Fault, Release, SearchFault, Sink, Source, report, status};
-pub use join_command::{JoinEnd, join_run, join_status, report_join};
-pub use json_commands::{
-    Beside, Wanted, compare_json, explain_certificate, explain_certificate_json, explain_instance,
-    explain_instance_json, explain_plan, explain_plan_json, judge_json, limit_json, limit_run,
-    margin_json, margin_run, verify_json, why_json, why_run,
+use file_commands::hints::{Said, told};
+pub use file_commands::{
+    JoinEnd, RatesEnd, RatesFault, check_run, compare_json, compare_run, draw_run,
+    explain_certificate, explain_certificate_json, explain_instance, explain_instance_json,
+    explain_plan, explain_plan_json, explain_rates, export_run, join_run, join_status, judge_json,
+    judge_run, period_run, rates_status, repeat_plan_run, repeat_run, replay_run, report_join,
+    report_rates, schedule_run, tables, tables_run, unroll_run, verify, verify_bundle, verify_json,
 };
-pub use period_command::{period_run, tables_run};
-pub use plan_commands::{
-    check_run, compare_run, draw_run, export_run, judge_run, replay_run, schedule_run, tables,
-    verify, verify_bundle,
+use file_commands::{joining, judging, rates};
+pub use question_commands::{
+    Beside, Wanted, limit_json, limit_run, margin_json, margin_run, why_json, why_run,
 };
-pub use rates_command::{
-    RatesEnd, RatesFault, rates_status, repeat_plan_run, repeat_run, report_rates, unroll_run,
-};
-pub use rates_explained::explain_rates;
 pub use solve_command::{Options, solve_run};
 use std::io;
 use std::marker::Sync;

@@ -1,8 +1,8 @@
 //! Which files of the system does a search make and rename to keep its best plan?
 
-use crate::files::FileFault;
 use command_streams::{Fault, PLAN_LIMIT, Sink, Source, read_all};
-use search_watching::{Folder, MOST_BESIDE, Made, Shelf, name_beside};
+use file_commands::files::FileFault;
+use solve_command::{Folder, MOST_BESIDE, Made, Shelf, name_beside};
 use std::alloc::AllocError;
 use std::fs::{self, File};
 use std::io::{self, Write};

@@ -3,43 +3,23 @@
 ghost use Rattle.command_line.specs.Requests.{IsSoundSearch};
 ghost use Rattle.solve_command.specs.Onward.{IsSomePart};
 
-use crate::files::{FileFault, Files, Named, from_of};
-use crate::hints::{Said, hint_at_none, told};
-use crate::judging::as_json;
 use crate::plan_file::shelf_of;
 use command_line::{AnswerForm, Asks, Effort, Limit, Part, Search, Why};
 use command_streams::End;
-use json_commands::{Asking, Beside, LIMIT, WHY, Wanted, limit_json, limit_run, why_json, why_run};
-use search_watching::{Follower, Keeper, Lines, Patience, Patient, Progress, Searches, kept_end};
-use solve_command::{
-    Asked, Continuation, Enough, FreeGate, Options, Portion, solve_run_from, solve_run_on,
-    solve_run_with,
+use file_commands::files::{FileFault, Files, Named, Sheet, from_of};
+use file_commands::hints::{Said, hint_at_none, told};
+use file_commands::judging::as_json;
+use question_commands::{
+    Asking, Beside, LIMIT, WHY, Wanted, limit_json, limit_run, why_json, why_run,
 };
-use std::fs::File;
-use std::io::{self, IsTerminal};
+use solve_command::{
+    Asked, Continuation, Enough, Follower, FreeGate, Keeper, Lines, Options, Patience, Patient,
+    Portion, Progress, Searches, kept_end, solve_run_from, solve_run_on, solve_run_with,
+};
+use std::io::IsTerminal;
 use std::marker::Sync;
 use std::sync::Wait;
 use std::thread::Threads;
-
-/// What is written beside an answer: to a file, or nowhere.
-#[derive(Drop)]
-pub struct Sheet(pub Option<File>);
-
-impl io::Write for Sheet {
-    fn write(&mut self, buf: &[u8]) -> io::Result<usize> {
-        match &mut self.0 {
-            Some(file) => file.write(buf),
-            None => Ok(buf.len()),
-        }
-    }
-
-    fn flush(&mut self) -> io::Result<()> {
-        match &mut self.0 {
-            Some(file) => file.flush(),
-            None => Ok(()),
-        }
-    }
-}
 
 /// How lines of progress are written.
 pub fn lines_for(rt: &HostRuntime) -> Lines {

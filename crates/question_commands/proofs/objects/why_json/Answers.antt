@@ -2,7 +2,7 @@ use Rattle.std.proofs.Common.{List, ℕ}
 use Rattle.question_commands.specs.Answers.{IsWhyAnswer}
 use Rattle.json_answers.specs.Telling.{IsEndOr, end_in_memory}
 use Rattle.json_answers.proofs.Told.{told_of_one}
-use Rattle.json_commands.proofs.searching.why_json.Goals as goal
+use Rattle.question_commands.proofs.objects.why_json.Goals as goal
 
 pub returns-clause-answer : goal.returns-clause-answer
 returns-clause-answer g c =

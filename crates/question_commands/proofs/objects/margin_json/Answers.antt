@@ -2,7 +2,7 @@ use Rattle.std.proofs.Common.{List, ℕ}
 use Rattle.question_commands.specs.Margins.{IsMarginAnswer}
 use Rattle.json_answers.specs.Telling.{IsEndOr, end_in_memory}
 use Rattle.json_answers.proofs.Told.{told_of_one, untold_telling}
-use Rattle.json_commands.proofs.longer.margin_json.Goals as goal
+use Rattle.question_commands.proofs.objects.margin_json.Goals as goal
 
 pub returns-in-Ok-clause-answer : goal.returns-in-Ok-clause-answer
 returns-in-Ok-clause-answer g c =

@@ -95,6 +95,26 @@ pub struct Made<'a> {
     is_new: bool,
 }
 
+/// What is written beside an answer: to a file, or nowhere.
+#[derive(Drop)]
+pub struct Sheet(pub Option<File>);
+
+impl io::Write for Sheet {
+    fn write(&mut self, buf: &[u8]) -> io::Result<usize> {
+        match &mut self.0 {
+            Some(file) => file.write(buf),
+            None => Ok(buf.len()),
+        }
+    }
+
+    fn flush(&mut self) -> io::Result<()> {
+        match &mut self.0 {
+            Some(file) => file.flush(),
+            None => Ok(()),
+        }
+    }
+}
+
 /// The file itself, where one is written.
 pub fn file_of(made: Option<Made<'_>>) -> Option<File> {
     match made {

@@ -2,9 +2,10 @@
 
 ghost use Rattle.std.specs.Prelude.{◌≡◌, ◌≤◌, length, IfOk};
 
-use crate::files::{FileFault, Sources, empty, file_of, file_to_read, file_to_write, take_back};
+use crate::files::{
+    FileFault, Sheet, Sources, empty, file_of, file_to_read, file_to_write, take_back,
+};
 use crate::hints::{Said, hint_at_fault};
-use crate::searches::Sheet;
 use command_line::{Asks, Joining};
 use command_streams::{End, Fault, Sink, Source};
 use join_command::{JoinEnd, join_run, join_status, report_join};

@@ -1,0 +1,1 @@
+pub use Rattle.command_line.specs.Requests
