@@ -1,8 +1,9 @@
 -- The versions of a certificate's text: how each begins, and which lines it may have. Own profile.
-use Rattle.std.specs.Prelude.{◌≡◌, ℕ, List, [], ◌∷◌, Option, Bool, true, false, if◌then◌else◌, bytes_eq, find, codes, All}
+use Rattle.std.specs.Prelude.{◌≡◌, ◌==◌, ℕ, List, [], ◌∷◌, Option, Bool, true, false, if◌then◌else◌, bytes_eq, find, codes, All}
 use Rattle.std.specs.List.{list_all}
 use Rattle.ttp_model.specs.declared.step.Kind.{Kind}
 use Rattle.ttp_model.specs.declared.step.Step.{Step}
+use Rattle.ttp_model.specs.Instance.{Instance}
 use Rattle.certificate.specs.declared.head.Head.{Head}
 use Rattle.certificate.specs.declared.head.Head.TheVariants.{OfBranch, OfLeaf}
 use Rattle.certificate.specs.declared.node.Node.{Node}
@@ -20,6 +21,10 @@ version_line Two = codes "ttcert 2"
 -- the version that a first line names
 abbrev pub version_of : List ℕ → Option Version
 version_of line = find (λ version. bytes_eq line (version_line version)) (One ∷ Two ∷ [])
+
+-- the version of the certificates that answer for an instance: the first with one channel, and the second with two, also where no line needs it
+abbrev pub answer_version : Instance → Version
+answer_version i = if i.cluster.channels == 1 then One else Two
 
 -- ---- which lines a version allows
 

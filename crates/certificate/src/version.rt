@@ -3,12 +3,12 @@
 ghost use Rattle.std.specs.Prelude.{◌≡◌};
 ghost use Rattle.std.specs.List.{list_all};
 ghost use Rattle.certificate.specs.Numbers.{row_of};
-ghost use Rattle.certificate.specs.Versions.{version_line, version_of, allows_channels, allows_row, allows_kind, allows_head, allows_step, allows_node, version_of_nodes};
+ghost use Rattle.certificate.specs.Versions.{version_line, version_of, answer_version, allows_channels, allows_row, allows_kind, allows_head, allows_step, allows_node, version_of_nodes};
 
 use crate::head::{Head, branch_line};
 use crate::node::Node;
 use tt_infer::{Line, line_of};
-use ttp_model::{Kind, Step};
+use ttp_model::{Instance, Kind, Step};
 
 /// The version of a certificate's text, which its first line names. The second has all lines of the first, and those
 /// that speak of channels.
@@ -107,6 +107,18 @@ impl Version {
         ensures { result ≡ list_all (allows_node self) nodes.now }
     {
         nodes.iter().all(|node| self.allows_node(node))
+    }
+
+    /// That of the certificates that answer for an instance: the first with one channel, and the second with two, also where no line
+    /// needs it.
+    pub fn of_answers(instance: &Instance) -> Version
+        ensures { result ≡ answer_version instance.now }
+    {
+        if instance.cluster().channels == 1 {
+            Version::One
+        } else {
+            Version::Two
+        }
     }
 
     /// The first version where it allows all lines of these nodes, and else the second.

@@ -50,7 +50,7 @@ impl Summit {
 }
 
 /// How many lists are taken to make it, beside those of the draft that it sets out from.
-pub const CLIMB_TABLES: usize = 23;
+pub const CLIMB_TABLES: usize = 24;
 
 /// A climb: the draft that it has come to, with what makes its schedule long, and the best one so far.
 #[derive(Drop)]
@@ -66,8 +66,8 @@ pub struct Climb {
 impl Climb {
     /// A climb that is to set out from this draft, in lists of the shelf.
     pub fn new(shelf: &mut Shelf, network: &Network, draft: Draft, chance: Chance) -> Self
-        requires { 22 < length shelf.old.tables.items }
-        ensures { length shelf.new.tables.items + 23 ≡ length shelf.old.tables.items }
+        requires { 23 < length shelf.old.tables.items }
+        ensures { length shelf.new.tables.items + 24 ≡ length shelf.old.tables.items }
     {
         let best = Summit {
             draft: draft.copy(shelf),
@@ -118,12 +118,12 @@ impl Climb {
         if self.draft.has(change) {
             return;
         }
-        let back = self.draft.make(change);
+        let back = self.draft.make(network, change);
         let most = self.cost.saturating_add(leeway);
         if self.make(network, most) && self.timetable.cost() <= most {
             self.stay();
         } else {
-            let _ = self.draft.make(back);
+            let _ = self.draft.make(network, back);
         }
     }
 

@@ -159,8 +159,8 @@ fn beginning(
     number: u64,
     chance: &mut Chance,
 ) -> Draft
-    requires { 4 < length shelf.old.tables.items }
-    ensures { length shelf.new.tables.items + 5 ≡ length shelf.old.tables.items }
+    requires { 5 < length shelf.old.tables.items }
+    ensures { length shelf.new.tables.items + 6 ≡ length shelf.old.tables.items }
 {
     if number >= FIRST {
         return best.copy(shelf);

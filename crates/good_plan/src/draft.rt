@@ -8,7 +8,7 @@ use crate::shelf::Shelf;
 use crate::table::Table;
 
 /// How many lists are taken to make one.
-pub const DRAFT_TABLES: usize = 5;
+pub const DRAFT_TABLES: usize = 6;
 
 /// A slot order, a capacity for each node, the processes of each node in the order in which they run,
 /// and which messages wait.
@@ -23,6 +23,8 @@ pub struct Draft {
     pub places: Table,
     /// By message, how many frames with room it lets pass.
     pub holds: Table,
+    /// By process, how many ticks go by at least from its start to the last end: by what runs behind it on its node, and by chains.
+    pub tails: Table,
 }
 
 /// A change of a draft.
@@ -44,8 +46,8 @@ impl Draft {
     /// Nodes in their own order, with the capacities that carry most, and processes the earlier the
     /// longer the chains that begin with them take. No process then waits for a later one.
     pub fn new(shelf: &mut Shelf, network: &Network) -> Self
-        requires { 4 < length shelf.old.tables.items }
-        ensures { length shelf.new.tables.items + 5 ≡ length shelf.old.tables.items }
+        requires { 5 < length shelf.old.tables.items }
+        ensures { length shelf.new.tables.items + 6 ≡ length shelf.old.tables.items }
     {
         let mut draft = Draft {
             order: shelf.numbered(network.roomy.len()),
@@ -53,16 +55,18 @@ impl Draft {
             line: shelf.copy(network.residents.all()),
             places: shelf.copy(&network.homes),
             holds: shelf.zeros(network.bytes.len()),
+            tails: shelf.copy(&network.chains),
         };
         let last = draft.line.len();
         draft.renumber(0, last);
+        draft.measure(network, 0, last);
         draft
     }
 
     /// The same draft, in other lists.
     pub fn copy(&self, shelf: &mut Shelf) -> Self
-        requires { 4 < length shelf.old.tables.items }
-        ensures { length shelf.new.tables.items + 5 ≡ length shelf.old.tables.items }
+        requires { 5 < length shelf.old.tables.items }
+        ensures { length shelf.new.tables.items + 6 ≡ length shelf.old.tables.items }
     {
         Draft {
             order: shelf.copy(&self.order),
@@ -70,6 +74,7 @@ impl Draft {
             line: shelf.copy(&self.line),
             places: shelf.copy(&self.places),
             holds: shelf.copy(&self.holds),
+            tails: shelf.copy(&self.tails),
         }
     }
 
@@ -80,6 +85,7 @@ impl Draft {
         self.line.take_over(&other.line);
         self.places.take_over(&other.places);
         self.holds.take_over(&other.holds);
+        self.tails.take_over(&other.tails);
     }
 
     /// The capacity of a node in bytes.
@@ -97,8 +103,7 @@ impl Draft {
 
     /// Whether a process of the same node stands before this one in the line.
     pub fn has_neighbour_before(&self, network: &Network, p: usize) -> bool {
-        let place = self.places.place_at(p);
-        place > 0 && network.share_a_node(self.line.place_at(place - 1), p)
+        self.places.at(p) > network.firsts.at(p)
     }
 
     /// The process of the same node that stands next in the line.
@@ -122,7 +127,7 @@ impl Draft {
     }
 
     /// Makes a change, and gives the one that takes it back.
-    pub fn make(&mut self, change: Change) -> Change {
+    pub fn make(&mut self, network: &Network, change: Change) -> Change {
         match change {
             Change::Slots(a, b) => {
                 self.order.exchange(a, b);
@@ -139,7 +144,10 @@ impl Draft {
             }
             Change::Line(from, to) => {
                 self.line.carry(from, to);
-                self.renumber(from.min(to), from.max(to));
+                let last = from.max(to);
+                self.renumber(from.min(to), last);
+                let first = network.firsts.place_at(self.line.place_at(last));
+                self.measure(network, first, last.saturating_add(1));
                 Change::Line(to, from)
             }
             Change::Hold(message, frames) => {
@@ -147,6 +155,19 @@ impl Draft {
                 self.holds.set(message, frames);
                 Change::Hold(message, before)
             }
+        }
+    }
+
+    /// Measures the tails of the processes from one place of the line on and before another, the last first.
+    fn measure(&mut self, network: &Network, first: usize, last: usize) {
+        for place in (first..last).rev() {
+            let p = self.line.place_at(place);
+            let behind = match self.neighbour_after(network, p) {
+                Some(next) => self.tails.at(next),
+                None => 0,
+            };
+            let tail = behind.saturating_add(network.wcets.at(p));
+            self.tails.set(p, tail.max(network.chains.at(p)));
         }
     }
 

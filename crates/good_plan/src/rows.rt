@@ -57,7 +57,7 @@ impl Rows {
     }
 
     /// Where a row begins among all places.
-    fn begin(&self, row: usize) -> usize {
+    pub fn begin(&self, row: usize) -> usize {
         if row == 0 {
             0
         } else {

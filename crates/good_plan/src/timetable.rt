@@ -109,16 +109,11 @@ impl Timetable {
         let end = self.starts.at(p).saturating_add(network.wcets.at(p));
         self.judge(network, p, end);
         if let Some(q) = draft.neighbour_after(network, p) {
-            self.arrive(network, q, end, p);
+            self.arrive(draft, q, end, p);
         }
         let instance = network.instance;
         for l in network.links_from(p) {
-            self.arrive(
-                network,
-                instance.link_at(*l as usize).after as usize,
-                end,
-                p,
-            );
+            self.arrive(draft, instance.link_at(*l as usize).after as usize, end, p);
         }
         self.send(network, draft, p, end);
     }
@@ -135,10 +130,10 @@ impl Timetable {
     }
 
     /// Something that a process waits for is there at this time, and came from another process.
-    fn arrive(&mut self, network: &Network, q: usize, time: u64, from: usize) {
+    fn arrive(&mut self, draft: &Draft, q: usize, time: u64, from: usize) {
         if time > self.starts.at(q) {
             self.starts.set(q, time);
-            self.least = self.least.max(time.saturating_add(network.chains.at(q)));
+            self.least = self.least.max(time.saturating_add(draft.tails.at(q)));
             self.path.block(q, from);
         }
         self.waiting.set(q, self.waiting.at(q).saturating_sub(1));
@@ -163,14 +158,14 @@ impl Timetable {
             self.path.send(m, first, round);
             let sent = self.bus.end_of(node, round);
             let arrival = sent.saturating_add(u64::from(cluster.copy_in));
-            self.deliver(network, m, arrival, p);
+            self.deliver(network, draft, m, arrival, p);
         }
     }
 
     /// A message arrives at its receivers.
-    fn deliver(&mut self, network: &Network, m: usize, time: u64, from: usize) {
+    fn deliver(&mut self, network: &Network, draft: &Draft, m: usize, time: u64, from: usize) {
         for q in network.receivers(m) {
-            self.arrive(network, *q as usize, time, from);
+            self.arrive(draft, *q as usize, time, from);
         }
     }
 }

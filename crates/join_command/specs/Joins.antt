@@ -8,7 +8,7 @@ use Rattle.certificate.specs.Spelling.{SpellsCert}
 use Rattle.tree_check.specs.declared.fault.CertFault.TheVariants.{At}
 use Rattle.side_by_side.specs.Joined.{IsJoinedTree}
 use Rattle.side_by_side.specs.Bounds.{IsGreatestBound}
-use Rattle.side_by_side.specs.Versions.{answer_version}
+use Rattle.certificate.specs.Versions.{answer_version}
 use Rattle.side_by_side.specs.Faults as joining
 use Rattle.side_by_side.specs.declared.fault.JoinFault.{JoinFault}
 use Rattle.side_by_side.specs.declared.fault.JoinFault.TheVariants as fault

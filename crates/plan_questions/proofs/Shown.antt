@@ -2,11 +2,11 @@
 use Rattle.std.proofs.Common.{◌≡◌, ◌+◌, ◌≤◌, arith}
 use Rattle.ttp_model.specs.Instance.{Instance}
 use Rattle.ttp_model.specs.Rules.{IsInstance}
+use Rattle.certificate.specs.Versions.{answer_version}
 use Rattle.certificate.specs.Cert.{Cert}
 use Rattle.dropped_decisions.specs.Proofs.{Proves}
 use Rattle.dropped_decisions.specs.Branches.{branches}
 use Rattle.dropped_decisions.proofs.Bounds.{proved_none}
-use Rattle.planner.specs.Answers.{answer_version}
 use Rattle.planner.specs.outcome.Options.{Options}
 use Rattle.plan_questions.specs.Searches.{IsShown}
 

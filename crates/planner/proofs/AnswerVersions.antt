@@ -1,38 +1,30 @@
 -- The version of an answer's certificate allows all its lines: with one channel none of them speaks of channels.
-use Rattle.std.proofs.Common.{◌≡◌, ℕ, Bool, true, false, List, Option, None, Some, inl, inr, cond, filter, refl, sym, subst}
-use Rattle.std.specs.Prelude.{◌==◌}
-use Rattle.std.proofs.lemmas.Bool.{eqb-true}
+use Rattle.std.proofs.Common.{◌≡◌, ℕ, List, Option, None, Some, inl, inr, filter, sym, subst}
 use Rattle.ttp_model.specs.declared.plan.Plan.{Plan}
 use Rattle.ttp_model.specs.Instance.{Instance}
 use Rattle.ttp_model.specs.Rules.{IsInstance}
 use Rattle.certificate.specs.declared.version.Version.{Version}
-use Rattle.certificate.specs.declared.version.Version.TheVariants.{One, Two}
-use Rattle.certificate.specs.Versions.{Allows}
+use Rattle.certificate.specs.Versions.{answer_version, Allows}
 use Rattle.certificate.specs.declared.node.Node.{Node}
 use Rattle.certificate.specs.Cert.{Cert}
 use Rattle.certificate.specs.Trees.{preorder}
-use Rattle.certificate.proofs.Versions.{two_allows_all}
 use Rattle.begun_search.specs.Begun.{is_open}
 use Rattle.begun_search.specs.Ends.{IsAnswerOf}
 use Rattle.begun_search.specs.Proofs.{Proves}
 use Rattle.begun_search.specs.Searching.{aim_of}
 use Rattle.begun_search.specs.declared.parts.Portion.{Portion}
 use Rattle.begun_search.specs.found.FoundPlan.{FoundPlan}
-use Rattle.begun_search.proofs.OneChannel.{one_channel_is_allowed}
+use Rattle.begun_search.proofs.OneChannel.{answer_version_allows}
 use Rattle.begun_search.specs.outcome.Options.{Options}
 use Rattle.begun_search.specs.outcome.Outcome.{Outcome}
 use Rattle.begun_search.specs.outcome.Outcome.TheVariants.{Optimal, Infeasible, Stopped}
 use Rattle.begun_search.specs.outcome.Why.{Why}
-use Rattle.planner.specs.Answers.{answer_version, cert_of, from_low, IsOutcome}
+use Rattle.planner.specs.Answers.{cert_of, from_low, IsOutcome}
 use Rattle.planner.specs.Onward.{further, IsOnward, IsOwn, IsRaised}
-
-by_channels : (i : Instance) (cert : Cert) (alone : Bool) → (i.cluster.channels == 1) ≡ alone → IsInstance i → Proves i cert → Allows (cond alone One Two) cert.tree
-by_channels i cert true is w proves = one_channel_is_allowed i cert w (eqb-true i.cluster.channels 1 is) proves
-by_channels i cert false is w proves = two_allows_all cert.tree
 
 proved_allows : (i : Instance) (cert : Cert) → IsInstance i → Proves i cert → cert.version ≡ answer_version i → Allows cert.version cert.tree
 proved_allows i cert w proves version =
-    subst (λ (v : Version). Allows v cert.tree) (sym version) (by_channels i cert (i.cluster.channels == 1) refl w proves)
+    subst (λ (v : Version). Allows v cert.tree) (sym version) (answer_version_allows i cert w proves)
 
 pub answer_allows : (i : Instance) (options : Options) (gap : ℕ) (outcome : Outcome) → IsInstance i → IsOutcome i options gap outcome → Allows (cert_of outcome).version (cert_of outcome).tree
 answer_allows i options gap outcome w is = proved_allows i (cert_of outcome) w is.proves is.version

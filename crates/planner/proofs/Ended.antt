@@ -11,6 +11,7 @@ use Rattle.certificate.specs.declared.node.Node.{Node}
 use Rattle.certificate.specs.declared.node.Node.TheVariants as node
 use Rattle.certificate.specs.Trees.{Trees, none, grow, preorder}
 use Rattle.certificate.specs.Cert.{Cert}
+use Rattle.certificate.specs.Versions.{answer_version}
 use Rattle.begun_search.specs.Proofs.{choices_below, Suits, AreProofs, Proves}
 use Rattle.begun_search.specs.Gathering.{HasGoal}
 use Rattle.begun_search.specs.aims.Aims.{Aims}
@@ -24,7 +25,7 @@ use Rattle.begun_search.specs.Searching.{aim_of, limit_of, IsFound}
 use Rattle.begun_search.specs.Ends.{IsAnswerOf, IsCauseTold, IsFar}
 use Rattle.begun_search.proofs.Searching.{aim_below, weaker_goal}
 use Rattle.begun_search.specs.Branches.{branches}
-use Rattle.planner.specs.Answers.{answer_version, from_low, IsBestAbove, IsCause, IsOutcome}
+use Rattle.planner.specs.Answers.{from_low, IsBestAbove, IsCause, IsOutcome}
 use Rattle.planner.specs.Searched.{AreAims, IsEndAnswer, IsEndTree, IsExhausted, IsLowest, IsReason, HasLeafAt}
 use Rattle.planner.proofs.Searched.{limit_small}
 

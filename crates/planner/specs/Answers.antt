@@ -1,5 +1,5 @@
 -- What an answer to an instance says: a least plan, no plan, or bounds, each with a tree that proves it.
-use Rattle.std.specs.Prelude.{◌≡◌, ℕ, ◌+◌, ◌-◌, ◌≤◌, ◌<◌, ◌==◌, if◌then◌else◌, min, count_by, Bool, false, Option, None, Some, nat_le, Contains, All}
+use Rattle.std.specs.Prelude.{◌≡◌, ℕ, ◌+◌, ◌-◌, ◌≤◌, ◌<◌, min, count_by, Bool, false, Option, None, Some, nat_le, Contains, All}
 use Rattle.ttp_model.specs.declared.plan.Plan.{Plan}
 use Rattle.ttp_model.specs.Instance.{Instance}
 use Rattle.ttp_model.specs.Answers.{Answer, Least, NoPlan, Between, IsTrueOf}
@@ -7,8 +7,7 @@ use Rattle.ttp_model.specs.Chains.{IsPathBound}
 use Rattle.certificate.specs.declared.node.Node.{Node}
 use Rattle.ttp_model.specs.declared.step.Leaf.{Leaf}
 use Rattle.certificate.specs.declared.node.Node.TheVariants as node
-use Rattle.certificate.specs.declared.version.Version.{Version}
-use Rattle.certificate.specs.declared.version.Version.TheVariants.{One, Two}
+use Rattle.certificate.specs.Versions.{answer_version}
 use Rattle.certificate.specs.Trees.{Trees, preorder}
 use Rattle.certificate.specs.Cert.{Cert}
 use Rattle.begun_search.specs.Proofs.{Proves}
@@ -97,11 +96,7 @@ certified_by cert (Optimal plan ticks own) = Optimal plan ticks cert
 certified_by cert (Infeasible own) = Infeasible cert
 certified_by cert (Stopped why low best own) = Stopped why low best own
 
--- the version of an answer's certificate: the first for one channel, and the second for two, also where no line needs it
-abbrev pub answer_version : Instance → Version
-answer_version i = if i.cluster.channels == 1 then One else Two
-
--- a certificate in that version
+-- a certificate in the version of the instance's answers
 abbrev pub in_answer : Instance → Cert → Cert
 in_answer i cert = record cert { version = answer_version i }
 

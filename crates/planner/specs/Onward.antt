@@ -6,6 +6,7 @@ use Rattle.ttp_model.specs.Delays.{delay}
 use Rattle.certificate.specs.declared.node.Node.{Node}
 use Rattle.certificate.specs.Cert.{Cert}
 use Rattle.certificate.specs.Trees.{preorder}
+use Rattle.certificate.specs.Versions.{answer_version}
 use Rattle.begun_search.specs.Begun.{is_open, stays, IsTooDeep}
 use Rattle.begun_search.specs.Parts.{others_of, IsPortion}
 use Rattle.begun_search.specs.Searching.{aim_of, limit_of, IsFound}
@@ -21,7 +22,7 @@ use Rattle.begun_search.specs.outcome.SolveFault.TheVariants.{Memory}
 use Rattle.begun_search.specs.Proofs.{Proves}
 use Rattle.begun_search.specs.outcome.Why.{Why}
 use Rattle.side_by_side.specs.Joined.{IsJoinedTree}
-use Rattle.planner.specs.Answers.{answer_version, best_of, cert_of, IsOutcome}
+use Rattle.planner.specs.Answers.{best_of, cert_of, IsOutcome}
 use Rattle.planner.specs.PartAnswers.{IsPartOutcome}
 use Rattle.planner.specs.Searched.{IsEndAnswer}
 use Rattle.planner.specs.declared.onward.OnFault.{OnFault}

@@ -4,6 +4,7 @@ use Rattle.ttp_model.specs.Instance.{Instance}
 use Rattle.certificate.specs.declared.node.Node.{Node}
 use Rattle.certificate.specs.Trees.{preorder}
 use Rattle.certificate.specs.Cert.{Cert}
+use Rattle.certificate.specs.Versions.{answer_version}
 use Rattle.begun_search.specs.Begun.{AreLeavesOf}
 use Rattle.begun_search.specs.Branches.{branches}
 use Rattle.begun_search.specs.Ends.{IsFar}
@@ -19,7 +20,7 @@ use Rattle.begun_search.specs.outcome.Outcome.TheVariants.{Optimal, Infeasible, 
 use Rattle.begun_search.specs.outcome.Why.{Why}
 use Rattle.begun_search.specs.outcome.Why.TheVariants.{Budget, Memory, CalledOff, Gap, Part}
 use Rattle.begun_search.specs.piece.Piece.{Piece}
-use Rattle.planner.specs.Answers.{answer_version, cert_of, IsBestAbove, IsCause, IsLeastGoal, Says}
+use Rattle.planner.specs.Answers.{cert_of, IsBestAbove, IsCause, IsLeastGoal, Says}
 use Rattle.planner.specs.Searched.{IsReason}
 
 -- the cause of a stop: as of a whole search, or the part's leaves are done; which of them needn't be worked isn't said

@@ -7,6 +7,7 @@ use Rattle.certificate.specs.declared.node.Node.{Node}
 use Rattle.certificate.specs.declared.node.Node.TheVariants as node
 use Rattle.certificate.specs.Trees.{preorder}
 use Rattle.certificate.specs.Cert.{Cert}
+use Rattle.certificate.specs.Versions.{answer_version}
 use Rattle.begun_search.specs.Proofs.{Proves}
 use Rattle.begun_search.specs.Branches.{branches}
 use Rattle.begun_search.specs.piece.Piece.{Piece}
@@ -22,7 +23,7 @@ use Rattle.begun_search.specs.Goals.{goal_of}
 use Rattle.begun_search.specs.Searching.{aim_of, limit_of, IsFound, IsWorkedOut}
 use Rattle.begun_search.specs.Gathering.{HasGoal, HaveGoals}
 use Rattle.begun_search.specs.Ends.{IsAnswerOf, IsCauseTold}
-use Rattle.planner.specs.Answers.{answer_version, from_low, worked_at, worked_goal}
+use Rattle.planner.specs.Answers.{from_low, worked_at, worked_goal}
 
 -- a goal at which propagation closes the whole tree: at least the path bound, within one tick past the horizon
 abbrev pub IsFloor : Instance → ℕ → Type 0

@@ -8,11 +8,10 @@ ghost use Rattle.planner.specs.Answers.{certified_by, IsOutcome};
 ghost use Rattle.planner.specs.Searched.{AreAims, IsEndTree};
 ghost use Rattle.begun_search.specs.Searching.{IsFound};
 
-use crate::versions::answer_version;
 use begun_search::{
     Course, Manner, Options, Outcome, Search, Standing, aim, proof_of, without_unused,
 };
-use certificate::Cert;
+use certificate::{Cert, Version};
 use std::alloc::Global;
 use ttp_model::{Instance, MemoryFault};
 
@@ -55,7 +54,7 @@ pub fn lean_proof(
     }
     let low = aim(instance, course.aims, &search.best);
     let standing = standing(alloc, search).ok()?;
-    let version = answer_version(instance);
+    let version = Version::of_answers(instance);
     let most = search.pieces.len();
     match proof_of(alloc, instance, version, low, standing, most) {
         Ok(found) => found,

@@ -15,7 +15,6 @@ mod parting;
 mod raised;
 mod reserve;
 mod solving;
-mod versions;
 
 pub use begun_search::{
     FoundPlan, FreeGate, Gate, GatherFault, Manner, Name, Options, Outcome, Portion, Site,

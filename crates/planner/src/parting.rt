@@ -12,8 +12,8 @@ ghost use Rattle.planner.specs.PartAnswers.{IsPartEnd, IsPartOutcome, IsPartSear
 use crate::end_tree::ended;
 use crate::joining::join;
 use crate::solving::{certified, close_behind};
-use crate::versions::answer_version;
 use begun_search::{Aims, Dealt, Options, Outcome, Piece, Search, SolveFault, Task, Why, aim};
+use certificate::Version;
 use std::alloc::Global;
 use ttp_model::{Instance, MemoryFault};
 
@@ -74,6 +74,6 @@ pub fn part_concluded(
     let top = aim(instance, aims, &best);
     close_part(alloc, instance, &mut pieces, tasks, others, top)?;
     let cert = certified(room, pieces, 0)?;
-    let cert = cert.with_version(answer_version(instance));
+    let cert = cert.with_version(Version::of_answers(instance));
     Ok(ended(instance, aims.gap, why, best, cert))
 }

@@ -1,10 +1,11 @@
 //! How does an answer's bound not fall below that of the certificate from which the search went on?
 
 ghost use Rattle.std.specs.Prelude.{◌≡◌, ◌≤◌, ◌⊎◌, ◌∷◌, [], IfOk};
+ghost use Rattle.certificate.specs.Versions.{answer_version};
 ghost use Rattle.begun_search.specs.Proofs.{Proves};
 ghost use Rattle.side_by_side.specs.Bounds.{IsGreatestBound};
 ghost use Rattle.side_by_side.specs.Joined.{IsJoinedTree};
-ghost use Rattle.planner.specs.Answers.{answer_version, best_of, cert_of, IsCalledOff};
+ghost use Rattle.planner.specs.Answers.{best_of, cert_of, IsCalledOff};
 ghost use Rattle.planner.specs.Onward.{IsProved, IsRaised};
 
 use crate::end_tree::ended;

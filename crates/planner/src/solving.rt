@@ -22,12 +22,11 @@ use crate::end_tree::ended;
 use crate::joining::join;
 use crate::leaner::{lean_proof, leaner};
 use crate::reserve::Reserve;
-use crate::versions::answer_version;
 use begun_search::{
     Aims, Course, FoundPlan, FreeGate, Gate, Manner, Options, Outcome, Piece, Search, Site,
     SolveFault, Task, Team, Why, aim, better, gather_whole, root_bound,
 };
-use certificate::{Cert, Node};
+use certificate::{Cert, Node, Version};
 use good_plan::good_plan;
 use std::alloc::Global;
 use std::marker::{Brand, Sync};
@@ -190,7 +189,7 @@ fn concluded(
         ..
     } = search;
     let cert = closed_tree(alloc, instance, aims, room, pieces, tasks, &best)?;
-    let cert = cert.with_version(answer_version(instance));
+    let cert = cert.with_version(Version::of_answers(instance));
     Ok(ended(instance, aims.gap, why, best, cert))
 }
 

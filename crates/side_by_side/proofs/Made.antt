@@ -1,27 +1,23 @@
 -- The certificate of a joined tree: its bound, its version, and what it proves.
-use Rattle.std.proofs.Common.{◌≡◌, ℕ, ◌+◌, List, [], Bool, true, false, cond, refl, sym, ap, subst, ◌∙◌}
-use Rattle.std.specs.Prelude.{◌==◌}
-use Rattle.std.proofs.lemmas.Bool.{eqb-true}
+use Rattle.std.proofs.Common.{◌≡◌, ℕ, ◌+◌, List, [], refl, sym, ap, subst, ◌∙◌}
 use Rattle.ttp_model.specs.Instance.{Instance}
 use Rattle.ttp_model.specs.Rules.{IsInstance}
 use Rattle.ttp_model.specs.Delays.{IsLowerBound}
 use Rattle.certificate.specs.declared.node.Node.{Node}
-use Rattle.certificate.specs.declared.version.Version.TheVariants.{One, Two}
+use Rattle.certificate.specs.declared.version.Version.TheVariants.{One}
 use Rattle.certificate.specs.Trees.{Trees, trees_of}
-use Rattle.certificate.specs.Versions.{Allows}
+use Rattle.certificate.specs.Versions.{answer_version, Allows}
 use Rattle.certificate.specs.Cert.{Cert}
 use Rattle.certificate.proofs.TreeLists.{preorder-trees_of}
-use Rattle.certificate.proofs.Versions.{two_allows_all}
 use Rattle.tree_check.specs.Proofs.{Proves}
 use Rattle.tree_check.proofs.Bounds.{proved_bound}
-use Rattle.tree_check.proofs.OneChannel.{one_channel_is_allowed}
+use Rattle.tree_check.proofs.OneChannel.{answer_version_allows}
 use Rattle.side_by_side.specs.declared.frame.Frame.{Frame}
 use Rattle.side_by_side.specs.declared.joining.Joining.{Joining}
 use Rattle.side_by_side.specs.Joined.{IsJoinedTree}
 use Rattle.side_by_side.specs.Joining.{IsJoining}
 use Rattle.side_by_side.specs.Steps.{IsJoiningOf, IsStep}
 use Rattle.side_by_side.specs.Bounds.{IsGreatestBound, IsRight, lowest}
-use Rattle.side_by_side.specs.Versions.{answer_version}
 use Rattle.side_by_side.proofs.LowBounds.{greatest_bound}
 use Rattle.side_by_side.proofs.Stages.{joining_all}
 
@@ -38,15 +34,10 @@ proves_it i tree low greatest = record { low = greatest.within; tree = greatest.
 pub made_lower : (i : Instance) (tree : Trees) (low : ℕ) → IsInstance i → IsGreatestBound i tree low → IsLowerBound i low
 made_lower i tree low w greatest = proved_bound i (record { version = One; low = low; tree = tree }) w (proves_it i tree low greatest)
 
-by_channels : (i : Instance) (cert : Cert) (alone : Bool) → (i.cluster.channels == 1) ≡ alone → IsInstance i → Proves i cert
-    → Allows (cond alone One Two) cert.tree
-by_channels i cert true is w proves = one_channel_is_allowed i cert w (eqb-true i.cluster.channels 1 is) proves
-by_channels i cert false is w proves = two_allows_all cert.tree
-
 -- all its lines may stand in the version of the instance's answers
 pub made_allowed : (i : Instance) (tree : Trees) (low : ℕ) → IsInstance i → IsGreatestBound i tree low → Allows (answer_version i) tree
 made_allowed i tree low w greatest =
-    by_channels i (record { version = One; low = low; tree = tree }) (i.cluster.channels == 1) refl w (proves_it i tree low greatest)
+    answer_version_allows i (record { version = One; low = low; tree = tree }) w (proves_it i tree low greatest)
 
 -- ---- the end of a join
 

@@ -3,7 +3,6 @@ pub mod Copies
 pub mod Joined
 pub mod Bounds
 pub mod Parts
-pub mod Versions
 pub mod Faults
 pub mod Found
 pub mod Passing

@@ -9,7 +9,6 @@ ghost use Rattle.side_by_side.specs.Bounds.{IsGreatestBound, IsRight};
 ghost use Rattle.side_by_side.specs.Faults.{IsJoinFault};
 ghost use Rattle.side_by_side.specs.Found.{side_at};
 ghost use Rattle.side_by_side.specs.Joined.{IsJoinedTree, own_trees};
-ghost use Rattle.side_by_side.specs.Versions.{answer_version};
 
 use crate::fault::JoinFault;
 use crate::joining::Joining;
@@ -36,17 +35,6 @@ fn starts(alloc: Global, certs: &[Cert]) -> Result<Vec<Side>, MemoryFault>
     Ok(sides)
 }
 
-/// The version of the certificates that answer for an instance: the first with one channel, and the second with two.
-fn answer_version(instance: &Instance) -> Version
-    ensures { result ≡ answer_version instance.now }
-{
-    if instance.cluster().channels == 1 {
-        Version::One
-    } else {
-        Version::Two
-    }
-}
-
 /// The certificate that certificates of one instance, at least one, make together: at each place the branch of the one with the
 /// greatest stated bound, of those that have a branch there, and where there is none the best leaf. What goes into its tree is judged
 /// where it stands; what doesn't isn't judged, and no bound that is stated is believed. Its bound, in ticks, is the greatest that its
@@ -65,7 +53,7 @@ pub fn join_all(alloc: Global, instance: &Instance, certs: &[Cert]) -> Result<Ce
 {
     let nodes = joined_nodes(alloc, instance, certs)?;
     let low = lowest(instance.past_horizon(), nodes.as_slice());
-    Ok(Cert::new(answer_version(instance), low, nodes))
+    Ok(Cert::new(Version::of_answers(instance), low, nodes))
 }
 
 /// The nodes of their joined tree.

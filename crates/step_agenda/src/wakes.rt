@@ -83,7 +83,7 @@ fn add_woken_by_order(
     steps: &mut Vec<Step>,
 ) -> Result<(), MemoryFault> {
     for step in pair_steps(p, q) {
-        if reads_order(facts.instance(), &step, p, q) && may_say_more(facts, &step) {
+        if may_say_more(facts, &step) && reads_order(facts.instance(), &step, p, q) {
             steps.push(step)?;
         }
     }

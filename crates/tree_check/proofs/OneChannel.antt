@@ -1,5 +1,7 @@
 -- With one channel no line of what proves a bound speaks of channels: none is free, no step counts by channel, and no message is on the second.
-use Rattle.std.proofs.Common.{◌≡◌, ℕ, suc, ◌≤◌, true, List, [], ◌∷◌, ◌++◌, Option, Some, unwrap_or, All, refl, arith, ap, sym, ◌∙◌}
+use Rattle.std.proofs.Common.{◌≡◌, ℕ, suc, ◌≤◌, Bool, true, false, cond, List, [], ◌∷◌, ◌++◌, Option, Some, unwrap_or, All, refl, arith, ap, sym, ◌∙◌}
+use Rattle.std.specs.Prelude.{◌==◌}
+use Rattle.std.proofs.lemmas.Bool.{eqb-true}
 use Rattle.std.proofs.lemmas.List.Elements.{All-nil, All-cons, All-append}
 use Rattle.ttp_model.specs.declared.step.Kind.{Kind}
 use Rattle.ttp_model.specs.declared.step.Kind.TheVariants.{Chan}
@@ -16,10 +18,11 @@ use Rattle.tt_infer.specs.Table.{rule}
 use Rattle.tt_infer.specs.Leaves.{Lead}
 use Rattle.certificate.specs.declared.node.Node.{Node}
 use Rattle.certificate.specs.declared.node.Node.TheVariants.{Branch, Leaf}
-use Rattle.certificate.specs.declared.version.Version.TheVariants.{One}
+use Rattle.certificate.specs.declared.version.Version.TheVariants.{One, Two}
 use Rattle.certificate.specs.Trees.{Trees, none, grow, preorder}
-use Rattle.certificate.specs.Versions.{allows_kind, allows_step, AllowsStep, AllowsNode, Allows}
+use Rattle.certificate.specs.Versions.{answer_version, allows_kind, allows_step, AllowsStep, AllowsNode, Allows}
 use Rattle.certificate.specs.Cert.{Cert}
+use Rattle.certificate.proofs.Versions.{two_allows_all}
 use Rattle.tree_check.specs.Proofs.{choices_below, Suits, AreProofs, Proves}
 use Rattle.tree_check.proofs.Bounds.{below_are}
 
@@ -62,7 +65,15 @@ module _ (i : Instance) (alone : i.cluster.channels ≡ 1) where
       (All-append (AllowsNode One) (preorder below) (preorder beside) under next)
 
 -- so version 1 allows them all
-pub one_channel_is_allowed : (i : Instance) (cert : Cert) → IsInstance i → i.cluster.channels ≡ 1 → Proves i cert → Allows One cert.tree
+one_channel_is_allowed : (i : Instance) (cert : Cert) → IsInstance i → i.cluster.channels ≡ 1 → Proves i cert → Allows One cert.tree
 one_channel_is_allowed i cert w alone proves =
     let root = All-cons (IsChoice i) (root_choice i) [] (IsChoice-root i w) (λ k d h. absurd (omega (arith, h))) in
     proof_lines i alone cert.low (root_choice i ∷ []) cert.tree root proves.tree
+
+by_channels : (i : Instance) (cert : Cert) (alone : Bool) → (i.cluster.channels == 1) ≡ alone → IsInstance i → Proves i cert → Allows (cond alone One Two) cert.tree
+by_channels i cert true is w proves = one_channel_is_allowed i cert w (eqb-true i.cluster.channels 1 is) proves
+by_channels i cert false is w proves = two_allows_all cert.tree
+
+-- the version of an instance's answers allows all lines of a certificate that proves its bound
+pub answer_version_allows : (i : Instance) (cert : Cert) → IsInstance i → Proves i cert → Allows (answer_version i) cert.tree
+answer_version_allows i cert w proves = by_channels i cert (i.cluster.channels == 1) refl w proves

@@ -1,7 +1,7 @@
 //! Does a certificate that constraints leave no plan show the same of fewer?
 
 ghost use Rattle.std.specs.Prelude.{◌≡◌, IfOk, IfSome};
-ghost use Rattle.planner.specs.Answers.{answer_version};
+ghost use Rattle.certificate.specs.Versions.{answer_version};
 ghost use Rattle.instance_variants.specs.Only.{only};
 ghost use Rattle.plan_questions.specs.Searches.{IsShown, Tells};
 

@@ -1,7 +1,7 @@
 //! Which constraints can be left out so that there is still no plan, and which of them are needed?
 
 ghost use Rattle.std.specs.Prelude.{◌≡◌, ◌-◌, ◌<◌, ◌≤◌, ◌++◌, [], IfOk, IfSome, None, OnOk, drop, length, option_to_list};
-ghost use Rattle.planner.specs.Answers.{answer_version};
+ghost use Rattle.certificate.specs.Versions.{answer_version};
 ghost use Rattle.plan_questions.specs.Conflicts.{IsNarrowing};
 ghost use Rattle.plan_questions.specs.Leaving.{IsTolder, LeavesOut, left_to_do};
 

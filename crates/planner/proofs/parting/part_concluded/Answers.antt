@@ -36,7 +36,7 @@ returns-clause-answer c =
     let others = c.args.dealt.others.items in
     let closed = c.in_ok-close_part.ensures in
     let cause = c.args.why in
-    let told : c.with_version-cert.result ≡ in_answer i c.in_ok-cert.cert = rw (c.with_version-cert.ensures, c.answer_version.ensures) refl in
+    let told : c.with_version-cert.result ≡ in_answer i c.in_ok-cert.cert = rw (c.with_version-cert.ensures, c.of_answers.ensures) refl in
     let gathered : IsGathered 0 ((search.pieces.items ++ closed.closed) ++ others) c.in_ok-cert.cert =
     subst (λ (ps : List Piece). IsGathered 0 ps c.in_ok-cert.cert) closed.joined c.in_ok-cert.ensures.ok in
     let is : IsPartTree i c.args.options c.args.aims.gap cause search.best (nodes_of others) c.with_version-cert.result =

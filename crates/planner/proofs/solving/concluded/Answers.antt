@@ -11,7 +11,7 @@ returns-clause-answer c =
     let i = c.args.instance.now in
     let s = c.args.search in
     let tree = c.in_ok-cert.ensures.ok in
-    let told : c.with_version-cert.result ≡ in_answer i c.in_ok-cert.cert = rw (c.with_version-cert.ensures, c.answer_version.ensures) refl in
+    let told : c.with_version-cert.result ≡ in_answer i c.in_ok-cert.cert = rw (c.with_version-cert.ensures, c.of_answers.ensures) refl in
     let searched =
     ends i c.args.aims s.pieces.items s.tasks.items s.best tree.low tree.closed c.requires.searching tree.are c.args.options c.args.why c.requires.within
     c.requires.cause in

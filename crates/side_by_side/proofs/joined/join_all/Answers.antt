@@ -14,7 +14,7 @@ returns-clause-allowed c =
     let nodes = c.in_ok-nodes.nodes.items in
     let least = rw (c.past_horizon.ensures.value, c.as_slice.ensures.value) at c.lowest-low.ensures in
     let low = made_bound i nodes c.lowest-low.result c.in_ok-nodes.ensures.right least in
-    rw (c.new.ensures, c.answer_version.ensures) (made_allowed i (trees_of nodes) c.lowest-low.result c.past_horizon.ensures.instance low)
+    rw (c.new.ensures, c.of_answers.ensures) (made_allowed i (trees_of nodes) c.lowest-low.result c.past_horizon.ensures.instance low)
 
 pub returns-clause-bound : goal.returns-clause-bound
 returns-clause-bound c =
