@@ -67,7 +67,7 @@ impl Bus {
         }
     }
 
-    /// Takes the slots of a draft, with frames that carry nothing.
+    /// Takes the slots of a draft.
     pub fn lay_out(&mut self, network: &Network, draft: &Draft) {
         let mut time = 0u64;
         for position in 0..draft.order.len() {
@@ -77,9 +77,13 @@ impl Bus {
             self.capacities.set(node, capacity);
             time = time.saturating_add(network.slot_length(capacity));
             self.ends.set(node, time);
-            self.passed.set(node, network.frames_of(node).start as u64);
         }
         self.round_length = time.max(1);
+    }
+
+    /// Takes all out of the frames.
+    pub fn empty(&mut self, network: &Network) {
+        self.passed.take_over(&network.frames);
         self.rounds.fill(UNUSED);
         self.loads.fill(0);
         self.second_loads.fill(0);
@@ -135,7 +139,7 @@ impl Bus {
     /// The frames of a node that are of this round or later, or carry nothing yet. A node never asks for an earlier round than before, as its
     /// processes run one after another.
     fn frames_from(&mut self, network: &Network, node: usize, first: u64) -> Range<usize> {
-        let end = network.frames_of(node).end;
+        let end = network.frames.place_at(node.saturating_add(1));
         let mut begin = end;
         for frame in self.passed.place_at(node)..end {
             if self.rounds.at(frame) >= first {

@@ -4,7 +4,7 @@ ghost use Rattle.std.specs.Prelude.{◌≡◌, ◌<◌, ◌+◌, length};
 
 use crate::chance::Chance;
 use crate::change::Choice;
-use crate::draft::Draft;
+use crate::draft::{Change, Draft};
 use crate::network::Network;
 use crate::path::Path;
 use crate::shelf::Shelf;
@@ -88,6 +88,7 @@ impl Climb {
     /// less and less leeway: threshold accepting (Dueck and Scheuer, Journal of Computational
     /// Physics 1990). It ends before where its best schedule is short enough.
     pub fn run(&mut self, network: &Network, pace: Pace) {
+        self.timetable.bus.lay_out(network, &self.draft);
         self.make(network, u64::MAX);
         self.stay();
         let most = self.timetable.delay.saturating_mul(pace.heat) / 1000;
@@ -118,13 +119,22 @@ impl Climb {
         if self.draft.has(change) {
             return;
         }
-        let back = self.draft.make(network, change);
+        let back = self.change(network, change);
         let most = self.cost.saturating_add(leeway);
         if self.make(network, most) && self.timetable.cost() <= most {
             self.stay();
         } else {
-            let _ = self.draft.make(network, back);
+            let _ = self.change(network, back);
         }
+    }
+
+    /// Makes a change of the draft, and gives the one that takes it back.
+    fn change(&mut self, network: &Network, change: Change) -> Change {
+        let back = self.draft.make(network, change);
+        if change.is_of_slots() {
+            self.timetable.bus.lay_out(network, &self.draft);
+        }
+        back
     }
 
     /// Makes the schedule of the draft, where there is one of at most so many ticks, and remembers the draft where less is

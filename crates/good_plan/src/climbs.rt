@@ -221,6 +221,7 @@ fn heat(number: u64) -> u64 {
 fn plan_of(alloc: Global, network: &Network, draft: &Draft) -> Result<Plan, AllocError> {
     let mut shelf = Shelf::of(alloc, TIMETABLE_TABLES)?;
     let mut timetable = Timetable::new(&mut shelf, network);
+    timetable.bus.lay_out(network, draft);
     timetable.make(network, draft, u64::MAX);
     read_off(alloc, draft, &timetable)
 }

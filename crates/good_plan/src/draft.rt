@@ -42,6 +42,16 @@ pub enum Change {
     Hold(usize, u64),
 }
 
+impl Change {
+    /// Whether it is about slots: their order, or how long they are.
+    pub fn is_of_slots(self) -> bool {
+        match self {
+            Change::Slots(_, _) | Change::Slot(_, _) | Change::Option(_, _) => true,
+            Change::Line(_, _) | Change::Hold(_, _) => false,
+        }
+    }
+}
+
 impl Draft {
     /// Nodes in their own order, with the capacities that carry most, and processes the earlier the
     /// longer the chains that begin with them take. No process then waits for a later one.
@@ -59,7 +69,7 @@ impl Draft {
         };
         let last = draft.line.len();
         draft.renumber(0, last);
-        draft.measure(network, 0, last);
+        draft.measure_all(network);
         draft
     }
 
@@ -144,10 +154,9 @@ impl Draft {
             }
             Change::Line(from, to) => {
                 self.line.carry(from, to);
-                let last = from.max(to);
-                self.renumber(from.min(to), last);
-                let first = network.firsts.place_at(self.line.place_at(last));
-                self.measure(network, first, last.saturating_add(1));
+                self.renumber(from.min(to), from.max(to));
+                let node = network.homes.place_at(self.line.place_at(to));
+                self.measure(network, node);
                 Change::Line(to, from)
             }
             Change::Hold(message, frames) => {
@@ -158,16 +167,21 @@ impl Draft {
         }
     }
 
-    /// Measures the tails of the processes from one place of the line on and before another, the last first.
-    fn measure(&mut self, network: &Network, first: usize, last: usize) {
-        for place in (first..last).rev() {
+    /// Measures the tails of all processes.
+    fn measure_all(&mut self, network: &Network) {
+        for node in 0..self.order.len() {
+            self.measure(network, node);
+        }
+    }
+
+    /// Measures the tails of a node's processes, the last first.
+    fn measure(&mut self, network: &Network, node: usize) {
+        let mut tail = 0u64;
+        for place in network.residents.places(node).rev() {
             let p = self.line.place_at(place);
-            let behind = match self.neighbour_after(network, p) {
-                Some(next) => self.tails.at(next),
-                None => 0,
-            };
-            let tail = behind.saturating_add(network.wcets.at(p));
-            self.tails.set(p, tail.max(network.chains.at(p)));
+            let behind = tail.saturating_add(network.wcets.at(p));
+            tail = behind.max(network.chains.at(p));
+            self.tails.set(p, tail);
         }
     }
 

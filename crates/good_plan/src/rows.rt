@@ -4,6 +4,7 @@ ghost use Rattle.std.specs.Prelude.{◌≡◌, ◌<◌, ◌+◌, length};
 
 use crate::shelf::Shelf;
 use crate::table::Table;
+use std::ops::Range;
 
 /// Rows of places, numbered from 0. A row that isn't there is empty.
 #[derive(Drop)]
@@ -47,8 +48,14 @@ impl Rows {
     }
 
     pub fn row(&self, row: usize) -> &[u64] {
+        let places = self.places(row);
+        self.items.part(places.start, places.end)
+    }
+
+    /// Where a row stands among all places.
+    pub fn places(&self, row: usize) -> Range<usize> {
         let next = row.saturating_add(1);
-        self.items.part(self.begin(row), self.begin(next))
+        self.begin(row)..self.begin(next)
     }
 
     /// All rows, one behind another.
@@ -57,7 +64,7 @@ impl Rows {
     }
 
     /// Where a row begins among all places.
-    pub fn begin(&self, row: usize) -> usize {
+    fn begin(&self, row: usize) -> usize {
         if row == 0 {
             0
         } else {

@@ -65,10 +65,10 @@ impl Timetable {
         self.delay.saturating_add(self.lateness / 8)
     }
 
-    /// Makes the schedule of a draft. None is made, and the answer is false, where processes of the
-    /// line wait for each other in a ring, or where it would take longer than so many ticks.
+    /// Makes the schedule of a draft whose slots the bus has. None is made, and the answer is false, where processes of
+    /// the line wait for each other in a ring, or where it would take longer than so many ticks.
     pub fn make(&mut self, network: &Network, draft: &Draft, most: u64) -> bool {
-        self.bus.lay_out(network, draft);
+        self.bus.empty(network);
         self.clear(network, draft);
         for turn in 0..network.homes.len() {
             if turn >= self.queue.len() || self.least > most {
