@@ -65,7 +65,7 @@ module _ (i : Instance) (alone : i.cluster.channels ≡ 1) where
       (All-append (AllowsNode One) (preorder below) (preorder beside) under next)
 
 -- so version 1 allows them all
-one_channel_is_allowed : (i : Instance) (cert : Cert) → IsInstance i → i.cluster.channels ≡ 1 → Proves i cert → Allows One cert.tree
+pub one_channel_is_allowed : (i : Instance) (cert : Cert) → IsInstance i → i.cluster.channels ≡ 1 → Proves i cert → Allows One cert.tree
 one_channel_is_allowed i cert w alone proves =
     let root = All-cons (IsChoice i) (root_choice i) [] (IsChoice-root i w) (λ k d h. absurd (omega (arith, h))) in
     proof_lines i alone cert.low (root_choice i ∷ []) cert.tree root proves.tree
