@@ -3,7 +3,7 @@
 ghost use Rattle.std.specs.Prelude.{◌≡◌, ◌<◌, ◌≤◌, ℕ, IfErr, IfOk, length};
 ghost use Rattle.ttp_model.specs.Delays.{IsLowerBound};
 ghost use Rattle.certificate.specs.Trees.{IsTree, trees_of};
-ghost use Rattle.certificate.specs.Versions.{Allows};
+ghost use Rattle.certificate.specs.Versions.{answer_version, Allows};
 ghost use Rattle.side_by_side.specs.declared.fault.JoinFault.TheVariants.{OutOfMemory};
 ghost use Rattle.side_by_side.specs.Bounds.{IsGreatestBound, IsRight};
 ghost use Rattle.side_by_side.specs.Faults.{IsJoinFault};
