@@ -3,7 +3,7 @@ use Rattle.std.specs.Prelude.{◌≡◌, ◌≢◌, ℕ, ◌<◌, List, length}
 use Rattle.ttp_model.specs.Limits.{most_ticks}
 use Rattle.ttp_model.specs.Lists.{EachBelow}
 use Rattle.rates_model.specs.Rates.{Rates, chain_at}
-use Rattle.job_ages.specs.Bounds.{with_age}
+use Rattle.endless_schedules.specs.Bounds.{with_age}
 
 -- chain x has this name
 pub record HasName (rho : Rates) (name : List ℕ) (x : ℕ) : Type 0 where

@@ -22,8 +22,8 @@ use Rattle.endless_schedules.proofs.RunPlaces.{place_inside, released_from, run_
 use Rattle.instance_variants.specs.Variants.{HasWindows, timed, with_times}
 use Rattle.instance_variants.proofs.VariedPlans.{timed_variant}
 use Rattle.instance_variants.proofs.VariedRules.{rules_varied}
-use Rattle.job_ages.specs.Bounds.{with_age}
-use Rattle.job_ages.proofs.OtherBounds.{differ_in_times, other_is, release_same, wcet_same}
+use Rattle.endless_schedules.specs.Bounds.{with_age}
+use Rattle.endless_schedules.proofs.OtherBounds.{differ_in_times, other_is, release_same, wcet_same}
 use Rattle.age_variants.specs.Aging.{aged, earliest_end, late_age, latest_end, own_age, window_age, window_of}
 use Rattle.age_variants.proofs.AgedDeadlines.{ends_back, ends_in, last_deadline}
 use Rattle.endless_schedules.proofs.Chains.{some_jobs}

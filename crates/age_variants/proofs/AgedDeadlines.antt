@@ -6,8 +6,8 @@ use Rattle.rates_model.specs.Rates.{Rates, chain_at}
 use Rattle.rates_model.specs.Ages.{age_deadline, last_of}
 use Rattle.unrolled_jobs.specs.Times.{job_deadline}
 use Rattle.endless_schedules.proofs.Deadlines.{EndsYoung, in_time_from, in_time_tells}
-use Rattle.job_ages.specs.Bounds.{with_age}
-use Rattle.job_ages.proofs.OtherBounds.{chains_many, deadline_of_it, deadline_of_others, horizon_same, last_same}
+use Rattle.endless_schedules.specs.Bounds.{with_age}
+use Rattle.endless_schedules.proofs.OtherBounds.{chains_many, deadline_of_it, deadline_of_others, horizon_same, last_same}
 use Rattle.age_variants.specs.Aging.{latest_end}
 
 module _ (rho : Rates) (x age : ℕ) (inside : x < length rho.chains) (less : age ≤ (chain_at rho x).age) where

@@ -20,8 +20,8 @@ use Rattle.unrolled_jobs.specs.Times.{job_deadline}
 use Rattle.unrolled_jobs.specs.Unrolled.{unrolled, unrolled_processes}
 use Rattle.endless_schedules.specs.Runs.{IsRun, Job, Run, Store, place_of}
 use Rattle.endless_schedules.proofs.RunPlaces.{run_at, to_end_by, to_store_by}
-use Rattle.job_ages.specs.Bounds.{with_age}
-use Rattle.job_ages.proofs.OtherBounds.{differ_in_times, horizon_same, other_is, place_same, run_same, undated_at}
+use Rattle.endless_schedules.specs.Bounds.{with_age}
+use Rattle.endless_schedules.proofs.OtherBounds.{differ_in_times, horizon_same, other_is, place_same, run_same, undated_at}
 use Rattle.age_variants.specs.Aging.{aged, latest_end}
 use Rattle.age_variants.proofs.AgedDeadlines.{last_deadline, other_deadline}
 

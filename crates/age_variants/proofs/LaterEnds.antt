@@ -26,7 +26,7 @@ use Rattle.endless_schedules.specs.Runs.{IsRun, Job, ends_at, place_of, starts_a
 use Rattle.endless_schedules.proofs.Chains.{IsLast, last_is}
 use Rattle.endless_schedules.proofs.ReadJobs.{read_tells}
 use Rattle.endless_schedules.proofs.RunPlaces.{place_inside, ticks_are}
-use Rattle.job_ages.proofs.ForEver.{has_late_age, some_job}
+use Rattle.endless_schedules.proofs.ForEver.{has_late_age, some_job}
 use Rattle.age_variants.specs.Aging.{late_age, own_age}
 use Rattle.age_variants.proofs.OwnAges.{all_there, some_last, some_through}
 

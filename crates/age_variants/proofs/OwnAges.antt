@@ -13,11 +13,11 @@ use Rattle.rates_model.specs.Cycles.{jobs_of}
 use Rattle.rates_model.specs.Ages.{last_of}
 use Rattle.rates_model.specs.Rules.{IsRates}
 use Rattle.unrolled_jobs.specs.Unrolled.{unrolled}
-use Rattle.job_ages.specs.Ages.{AreAgesWithin, IsAge}
-use Rattle.job_ages.specs.Bounds.{with_age}
-use Rattle.job_ages.proofs.Bounded.{valid_with_bound}
-use Rattle.job_ages.proofs.ForEver.{age_of_top, some_job}
-use Rattle.job_ages.proofs.Tops.{IsTop}
+use Rattle.endless_schedules.specs.Ages.{AreAgesWithin, IsAge}
+use Rattle.endless_schedules.specs.Bounds.{with_age}
+use Rattle.endless_schedules.proofs.Bounded.{valid_with_bound}
+use Rattle.endless_schedules.proofs.ForEver.{age_of_top, some_job}
+use Rattle.endless_schedules.proofs.Tops.{IsTop}
 use Rattle.age_variants.specs.Aging.{aged, late_age, own_age}
 
 module _ (rho : Rates) (x : ℕ) (w : IsRates rho) (inside : x < length rho.chains) where

@@ -11,7 +11,7 @@ use Rattle.rates_model.specs.Rates.{Rates, chain_at, no_chain}
 use Rattle.rates_model.specs.Cycles.{cycle, round_of}
 use Rattle.rates_model.specs.Refusals.{IsRatesRefusal}
 use Rattle.rates_model.specs.Rules.{AreTicks, IsRates, KeepsRatesRule, Indices, Names, NewNames, Ranges}
-use Rattle.job_ages.specs.Bounds.{with_age}
+use Rattle.endless_schedules.specs.Bounds.{with_age}
 
 module _ (rho : Rates) (x age : ℕ) where
   abbrev aged : Rates

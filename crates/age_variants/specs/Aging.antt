@@ -13,8 +13,8 @@ use Rattle.rates_model.specs.Reads.{job_from_all}
 use Rattle.rates_model.specs.Ages.{carried, cycles_back, last_of}
 use Rattle.unrolled_jobs.specs.Times.{carried_release, waits_along}
 use Rattle.unrolled_jobs.specs.Unrolled.{unrolled}
-use Rattle.job_ages.specs.Ages.{age_at}
-use Rattle.job_ages.specs.Bounds.{with_age}
+use Rattle.endless_schedules.specs.Ages.{age_at}
+use Rattle.endless_schedules.specs.Bounds.{with_age}
 use Rattle.age_variants.specs.declared.aging.Aging.{Aging}
 
 -- the instance of one cycle in which what chain x carries may be so old

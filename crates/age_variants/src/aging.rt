@@ -9,8 +9,8 @@ ghost use Rattle.rates_model.specs.Ages.{last_of};
 ghost use Rattle.unrolled_jobs.specs.Unrolled.{unrolled};
 ghost use Rattle.age_variants.specs.Aging.{IsAging, aged, latest_end};
 
+use endless_schedules::first_job;
 use instance_variants::{built, copies_of_messages, copies_of_nodes};
-use job_ages::first_job;
 use rates_model::Rates;
 use std::alloc::Global;
 use ttp_model::{Instance, MemoryFault, Numbers, Process};

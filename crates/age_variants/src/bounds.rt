@@ -4,7 +4,7 @@ ghost use Rattle.std.specs.Prelude.{◌≡◌, ◌<◌, IfOk, length, slice_inde
 ghost use Rattle.rates_model.specs.Parts.{rates_of};
 ghost use Rattle.rates_model.specs.Rates.{no_chain};
 ghost use Rattle.rates_model.specs.Rules.{AreTicks};
-ghost use Rattle.job_ages.specs.Bounds.{with_age};
+ghost use Rattle.endless_schedules.specs.Bounds.{with_age};
 
 use rates_model::{Chain, Rates, RatesMessage, RatesNode, RatesParts, RatesProcess};
 use std::alloc::Global;

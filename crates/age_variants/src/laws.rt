@@ -7,7 +7,7 @@ ghost use Rattle.ttp_model.specs.Plans.{IsValid};
 ghost use Rattle.rates_model.specs.Rates.{Rates, chain_at};
 ghost use Rattle.rates_model.specs.Rules.{IsRates};
 ghost use Rattle.unrolled_jobs.specs.Unrolled.{unrolled};
-ghost use Rattle.job_ages.specs.Ages.{IsAge};
+ghost use Rattle.endless_schedules.specs.Ages.{IsAge};
 
 use endless_schedules::plans_repeat_as_they_are_valid;
 

@@ -18,3 +18,9 @@ mod Behind
 mod WorkedRules
 mod WorkedJobs
 mod WorkedPlan
+pub mod Tops
+pub mod ForEver
+mod Reading
+pub mod OneAge
+pub mod OtherBounds
+pub mod Bounded

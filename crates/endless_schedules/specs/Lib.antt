@@ -4,3 +4,7 @@ pub mod Carried
 pub mod Endless
 pub mod Clocks
 pub mod Worked
+pub mod Extremes
+pub mod Spreads
+pub mod Ages
+pub mod Bounds

@@ -6,6 +6,7 @@ mod explaining;
 mod instances;
 mod members;
 mod mistaken;
+mod objects;
 mod plans;
 mod refusal_values;
 mod step_values;
@@ -13,3 +14,5 @@ mod telling;
 mod values;
 
 pub use explaining::{explain_certificate, explain_instance, explain_plan};
+pub use json_answers::{COMPARE, CommandLines, EXPLAIN, JUDGE, Reasons, VERIFY, tell};
+pub use objects::{explain_certificate_json, explain_instance_json, explain_plan_json};

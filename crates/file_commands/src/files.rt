@@ -4,7 +4,7 @@ use crate::hints::{Said, told};
 use crate::judging::refused;
 use command_line::{Asks, Question, Search, refuse, written_over};
 use command_streams::{End, Fault, Sink, Source};
-use json_commands::CommandLines;
+use explain_command::CommandLines;
 use std::fs::{self, File, OpenOptions};
 use std::io;
 use std::os::unix::fs::{FileTypeExt, MetadataExt};

@@ -8,7 +8,7 @@ use crate::files::{
 use crate::hints::{Said, hint_at_fault};
 use command_line::{Asks, Joining};
 use command_streams::{End, Fault, Sink, Source};
-use join_command::{JoinEnd, join_run, join_status, report_join};
+use plan_commands::{JoinEnd, join_run, join_status, report_join};
 use std::fs::File;
 
 /// Why a join can't have its files.

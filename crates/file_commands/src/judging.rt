@@ -5,15 +5,14 @@ ghost use Rattle.command_line.specs.Requests.{IsSoundRounds, IsSoundTask};
 use crate::hints::{Said, told};
 use command_line::{AnswerForm, Explained, RoundsTask, Task};
 use command_streams::{End, Fault, Release, Source};
-use json_commands::{
-    COMPARE, CommandLines, EXPLAIN, JUDGE, Reasons, VERIFY, compare_json, explain_certificate,
+use explain_command::{
+    COMPARE, CommandLines, EXPLAIN, JUDGE, Reasons, VERIFY, explain_certificate,
     explain_certificate_json, explain_instance, explain_instance_json, explain_plan,
-    explain_plan_json, judge_json, tell, verify_json,
+    explain_plan_json, tell,
 };
-use period_command::{period_run, tables_run};
 use plan_commands::{
-    check_run, compare_run, draw_run, export_run, judge_run, replay_run, schedule_run, tables,
-    verify,
+    check_run, compare_json, compare_run, draw_run, export_run, judge_json, judge_run, period_run,
+    replay_run, schedule_run, tables, tables_run, verify, verify_json,
 };
 use std::fs::File;
 use std::marker::Sync;

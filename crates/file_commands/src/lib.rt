@@ -7,17 +7,16 @@ pub mod joining;
 pub mod judging;
 pub mod rates;
 
-pub use join_command::{JoinEnd, join_run, join_status, report_join};
-pub use json_commands::{
-    compare_json, explain_certificate, explain_certificate_json, explain_instance,
-    explain_instance_json, explain_plan, explain_plan_json, judge_json, verify_json,
+pub use explain_command::{
+    explain_certificate, explain_certificate_json, explain_instance, explain_instance_json,
+    explain_plan, explain_plan_json,
 };
-pub use period_command::{period_run, tables_run};
 pub use plan_commands::{
-    check_run, compare_run, draw_run, export_run, judge_run, replay_run, schedule_run, tables,
-    verify, verify_bundle,
+    JoinEnd, check_run, compare_json, compare_run, draw_run, export_run, join_run, join_status,
+    judge_json, judge_run, period_run, replay_run, report_join, schedule_run, tables, tables_run,
+    verify, verify_bundle, verify_json,
 };
 pub use rates_command::{
-    RatesEnd, RatesFault, rates_status, repeat_plan_run, repeat_run, report_rates, unroll_run,
+    RatesEnd, RatesFault, explain_rates, rates_status, repeat_plan_run, repeat_run, report_rates,
+    unroll_run,
 };
-pub use rates_explained::explain_rates;

@@ -3,11 +3,10 @@
 use crate::hints::hint_at_file;
 use command_line::AnswerForm;
 use command_streams::{Fault, Source};
-use json_commands::{repeat_json, repeat_plan_json, tell_repeat};
 use rates_command::{
-    RatesEnd, RatesFault, rates_status, repeat_plan_run, repeat_run, report_rates, unroll_run,
+    RatesEnd, RatesFault, explain_rates, rates_status, repeat_json, repeat_plan_json,
+    repeat_plan_run, repeat_run, report_rates, tell_repeat, unroll_run,
 };
-use rates_explained::explain_rates;
 use std::fs::File;
 
 /// Says on standard error why a cluster was refused, or a plan of it, and which file it is where that can't be read, and gives the

@@ -16,8 +16,8 @@ use Rattle.rates_model.specs.declared.parts.Chain.{Chain}
 use Rattle.rates_model.specs.Rates.{Rates, chain_at}
 use Rattle.rates_model.specs.Rules.{IsRates}
 use Rattle.unrolled_jobs.specs.Unrolled.{unrolled}
-use Rattle.job_ages.specs.Ages.{IsAge}
-use Rattle.job_ages.specs.Bounds.{IsLeastAge, IsLowerAge}
+use Rattle.endless_schedules.specs.Ages.{IsAge}
+use Rattle.endless_schedules.specs.Bounds.{IsLeastAge, IsLowerAge}
 use Rattle.plan_questions.specs.Cuts.{IsApart, IsCutting, IsExact, IsNoneBelow, IsPlanAt, IsShownBefore, middle}
 use Rattle.plan_questions.specs.Searches.{IsLeftOpen, IsShown}
 use Rattle.age_variants.specs.declared.aging.Aging.{Aging}

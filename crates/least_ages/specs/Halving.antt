@@ -6,7 +6,7 @@ use Rattle.ttp_model.specs.Plans.{IsValid}
 use Rattle.rates_model.specs.Rates.{Rates, chain_at}
 use Rattle.rates_model.specs.Rules.{IsRates}
 use Rattle.unrolled_jobs.specs.Unrolled.{unrolled}
-use Rattle.job_ages.specs.Ages.{IsAge}
+use Rattle.endless_schedules.specs.Ages.{IsAge}
 use Rattle.age_variants.specs.Aging.{aged, own_age, window_age}
 use Rattle.plan_questions.specs.Cuts.{Cutting}
 

@@ -9,8 +9,8 @@ use Rattle.certificate.specs.Cert.{Cert}
 use Rattle.plan_questions.specs.outcome.Options.{Options}
 use Rattle.rates_model.specs.Rates.{Rates, chain_at}
 use Rattle.unrolled_jobs.specs.Unrolled.{unrolled}
-use Rattle.job_ages.specs.Ages.{IsAge}
-use Rattle.job_ages.specs.Bounds.{IsLeastAge, IsLowerAge}
+use Rattle.endless_schedules.specs.Ages.{IsAge}
+use Rattle.endless_schedules.specs.Bounds.{IsLeastAge, IsLowerAge}
 use Rattle.age_variants.specs.Aging.{aged, window_age}
 use Rattle.plan_questions.specs.Cuts.{middle}
 use Rattle.plan_questions.specs.Searches.{IsShown, WasStopped}

@@ -8,7 +8,7 @@ ghost use Rattle.age_variants.specs.Aging.{IsAging, aged, own_age};
 ghost use Rattle.least_ages.specs.Halving.{age_cutting};
 
 use age_variants::{Aging, with_age};
-use job_ages::greatest_age;
+use endless_schedules::greatest_age;
 use plan_questions::Cut;
 use std::alloc::Global;
 use ttp_model::{Instance, MemoryFault, Plan};

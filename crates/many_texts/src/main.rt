@@ -9,10 +9,9 @@ use command_streams::{End, report, status, take_input, write_text};
 use explain_command::{explain_certificate, explain_instance, explain_plan};
 use json_answers::Reasons;
 use line_text::{NumberWord, cut, number_word, push_number, push_number_word};
-use period_command::{period_run, tables_run};
 use plan_commands::{
-    check_run, compare_run, draw_run, judge_run, replay_run, schedule_run, tables, verify,
-    verify_bundle,
+    check_run, compare_run, draw_run, judge_run, period_run, replay_run, schedule_run, tables,
+    tables_run, verify, verify_bundle,
 };
 use plan_picture::{LEAST_WIDTH, MOST_WIDTH, Shown};
 use plan_sheets::Table;

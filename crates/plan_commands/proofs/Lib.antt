@@ -17,3 +17,6 @@ pub mod Standings
 pub mod Judging
 pub mod Judgements
 pub mod Compared
+mod Rounded
+pub mod Ends
+pub mod Readers

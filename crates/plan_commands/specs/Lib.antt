@@ -11,3 +11,7 @@ pub mod Fronts
 pub mod Printed
 pub mod Judged
 pub mod Comparisons
+pub mod Periods
+pub mod Endings
+pub mod Given
+pub mod Joins

@@ -3,9 +3,9 @@ use Rattle.std.proofs.Common.{◌≡◌, ◌∙◌, ℕ, suc, ◌+◌, List, [],
 use Rattle.std.proofs.lemmas.List.{append_assoc, append-nil}
 use Rattle.ttp_model.specs.declared.plan.Plan.{Plan}
 use Rattle.rates_model.specs.Rates.{Rates, chain_at, process_at}
-use Rattle.job_ages.specs.declared.spreads.Spread.{Spread}
-use Rattle.job_ages.specs.Ages.{IsAge}
-use Rattle.job_ages.specs.Spreads.{IsSpread}
+use Rattle.endless_schedules.specs.declared.spreads.Spread.{Spread}
+use Rattle.endless_schedules.specs.Ages.{IsAge}
+use Rattle.endless_schedules.specs.Spreads.{IsSpread}
 use Rattle.rates_command.specs.declared.cycle.RatesCycle.{RatesCycle}
 use Rattle.rates_command.specs.Cycles.{AddsLine, AddsLines, AreLines, IsChainLine, IsCycleOf, IsCycleText, IsPlanText, IsProcessLine, chain_line, counts_text, near_text, process_line, rounds_text}
 

@@ -8,9 +8,9 @@ use Rattle.plan_cycles.specs.declared.repetition.Near.{Near}
 use Rattle.plan_cycles.specs.Divisors.{Divides}
 use Rattle.plan_cycles.specs.Repetition.{IsNear}
 use Rattle.plan_cycles.specs.Text.{near_line}
-use Rattle.job_ages.specs.declared.spreads.Spread.{Spread}
-use Rattle.job_ages.specs.Ages.{IsAge}
-use Rattle.job_ages.specs.Spreads.{IsSpread}
+use Rattle.endless_schedules.specs.declared.spreads.Spread.{Spread}
+use Rattle.endless_schedules.specs.Ages.{IsAge}
+use Rattle.endless_schedules.specs.Spreads.{IsSpread}
 use Rattle.rates_command.specs.declared.cycle.RatesCycle.{RatesCycle}
 
 -- the nearest rounds that divide the cycle, where the round doesn't itself

@@ -4,3 +4,5 @@ pub mod Answers
 pub mod Cycles
 pub mod ReadPlans
 pub mod Repeats
+pub mod Telling
+pub mod ObjectEnds

@@ -6,7 +6,7 @@ ghost use Rattle.unrolled_jobs.specs.Unrolled.{unrolled};
 ghost use Rattle.rates_command.specs.Cycles.{AddsLine, AddsLines, IsChainLine, IsCycleText, IsPlanText, IsProcessLine, chain_line, counts_text, near_text, process_line, rounds_text};
 
 use crate::cycle::{RatesCycle, cycle_of};
-use job_ages::{Spread, chain_age, spread_of};
+use endless_schedules::{Spread, chain_age, spread_of};
 use plan_cycles::{Near, put_near};
 use rates_model::Rates;
 use std::alloc::{AllocError, Global};

@@ -1,20 +1,26 @@
-//! The commands on clusters of several rates: the instance of a cycle, and how it and a plan of it repeat.
+//! The commands on clusters of several rates: the instance of a cycle, how it and a plan of it repeat, and why one is refused.
 #![tactic(auto)]
 
 mod cycle;
 mod cycle_text;
 mod ending;
+mod explaining;
 mod limits;
 mod lines;
 mod named;
+mod objects;
 mod plan;
 mod reading;
+mod refused;
 mod repeat;
 mod reporting;
+mod sizes;
 mod unroll;
 
 pub use ending::{RatesEnd, RatesFault, rates_status};
+pub use explaining::explain_rates;
 pub use limits::RATES_LIMIT;
+pub use objects::{repeat_json, repeat_plan_json, tell_repeat};
 pub use reading::read_rates;
 pub use repeat::{repeat_plan_run, repeat_run};
 pub use reporting::report_rates;

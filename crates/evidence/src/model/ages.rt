@@ -2,10 +2,9 @@
 
 ghost use Rattle.rates_model.specs.Rates.{chain_at};
 ghost use Rattle.endless_schedules.specs.Worked.{late_pair, late_plan};
-ghost use Rattle.job_ages.specs.Ages.{AreAgesWithin};
+ghost use Rattle.endless_schedules.specs.Ages.{AreAgesWithin};
 
-use endless_schedules::late_pair_repeats;
-use job_ages::ages_are_bounds;
+use endless_schedules::{ages_are_bounds, late_pair_repeats};
 
 /// In its plan it is at times as old as its bound, which is 14 ticks, and never older.
 pub fn just_as_old_as_its_bound()

@@ -6,7 +6,7 @@ use Rattle.unrolled_jobs.specs.Stores.{first_store, job_index, storing_nodes, wi
 use Rattle.unrolled_jobs.specs.Times.{job_deadline}
 use Rattle.unrolled_jobs.specs.Unrolled.{job, job_message, jobs, jobs_reading, link_to, links_of, messages_of, readers, sent_of, store, stores, stores_reading, unrolled, unrolled_node}
 use Rattle.endless_schedules.specs.Worked.{late_pair, late_plan}
-use Rattle.job_ages.specs.Bounds.{with_age}
+use Rattle.endless_schedules.specs.Bounds.{with_age}
 use Rattle.evidence.proofs.model.ages.just_as_old_as_its_bound.Goals as goal
 
 -- with a bound of 13 the second job of q, which takes a tick, is to end by 5

@@ -1,4 +1,0 @@
-pub mod Extremes
-pub mod Spreads
-pub mod Ages
-pub mod Bounds
