@@ -5,13 +5,13 @@ use Rattle.std.specs.Global.{Vec}
 use Rattle.ttp_model.specs.declared.error.MemoryFault.{MemoryFault}
 use Rattle.ttp_model.specs.Instance.{Instance}
 use Rattle.rates_model.specs.Rates.{Rates}
-use Rattle.unrolled_jobs.specs.Unrolled.{unrolled}
-use Rattle.age_variants.specs.Aging.{aged}
+use Rattle.endless_schedules.specs.Unrolled.{unrolled}
+use Rattle.endless_schedules.specs.Aging.{aged}
 use Rattle.plan_questions.specs.outcome.Options.{Options}
-use Rattle.least_ages.specs.declared.answer.LeastAge.{LeastAge}
-use Rattle.least_ages.specs.declared.answer.LeastAge.TheVariants.{Least, Window, Between, Unknown, Never}
-use Rattle.least_ages.specs.LeastAges.{IsAnswer}
-use Rattle.least_ages.proofs.AgeCuts.{age_allows}
+use Rattle.plan_questions.specs.declared.ages.answer.LeastAge.{LeastAge}
+use Rattle.plan_questions.specs.declared.ages.answer.LeastAge.TheVariants.{Least, Window, Between, Unknown, Never}
+use Rattle.plan_questions.specs.LeastAges.{IsAnswer}
+use Rattle.plan_questions.proofs.AgeCuts.{age_allows}
 use Rattle.command_streams.specs.declared.ending.Fault.TheVariants as fault
 use Rattle.command_streams.specs.declared.ending.End.{End}
 use Rattle.command_streams.specs.declared.ending.End.TheVariants as end

@@ -2,10 +2,10 @@
 use Rattle.std.specs.Prelude.{◌≡◌, ◌⊎◌, ℕ, List, Option}
 use Rattle.std.specs.Io.KnownBytes.{Keeps}
 use Rattle.rates_model.specs.Rates.{Rates}
-use Rattle.unrolled_jobs.specs.declared.unrolling.UnrollFault.{UnrollFault}
-use Rattle.unrolled_jobs.specs.Refusals.{IsUnrollFault}
+use Rattle.endless_schedules.specs.declared.unrolling.UnrollFault.{UnrollFault}
+use Rattle.endless_schedules.specs.Refusals.{IsUnrollFault}
 use Rattle.plan_questions.specs.outcome.Options.{Options}
-use Rattle.least_ages.specs.LeastAges.{IsAnswer}
+use Rattle.plan_questions.specs.LeastAges.{IsAnswer}
 use Rattle.command_streams.specs.declared.ending.Fault.TheVariants as fault
 use Rattle.command_streams.specs.declared.ending.End.TheVariants as end
 use Rattle.command_streams.specs.Writing.{IsWritingOf}

@@ -8,10 +8,10 @@ use Rattle.ttp_model.specs.Rules.{IsInstance}
 use Rattle.certificate.specs.Cert.{Cert}
 use Rattle.certificate.specs.Versions.{Allows}
 use Rattle.rates_model.specs.Rates.{Rates, chain_at}
-use Rattle.unrolled_jobs.specs.Unrolled.{unrolled}
-use Rattle.least_ages.specs.declared.answer.LeastAge.{LeastAge}
-use Rattle.least_ages.specs.declared.answer.LeastAge.TheVariants.{Least, Window, Between, Unknown, Never}
-use Rattle.age_variants.specs.Aging.{aged}
+use Rattle.endless_schedules.specs.Unrolled.{unrolled}
+use Rattle.plan_questions.specs.declared.ages.answer.LeastAge.{LeastAge}
+use Rattle.plan_questions.specs.declared.ages.answer.LeastAge.TheVariants.{Least, Window, Between, Unknown, Never}
+use Rattle.endless_schedules.specs.Aging.{aged}
 use Rattle.command_streams.specs.declared.ending.End.{End}
 use Rattle.command_streams.specs.declared.ending.End.TheVariants.{Done, Absent, Stopped}
 use Rattle.command_streams.specs.declared.texts.Texts.{Texts}

@@ -6,7 +6,7 @@ ghost use Rattle.question_commands.specs.Limited.{HasValidPlan};
 ghost use Rattle.age_command.specs.Texts.{HasJob, IsAgeText, end_told, first_line, line_of, name_of, plan_of};
 
 use command_streams::End;
-use least_ages::LeastAge;
+use plan_questions::LeastAge;
 use std::alloc::{AllocError, Global};
 use std::fmt;
 use ttp_model::{Instance, MemoryFault, Plan};

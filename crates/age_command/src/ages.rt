@@ -3,7 +3,7 @@
 ghost use Rattle.std.specs.Prelude.{◌≡◌, ◌+◌, ◌<◌, IfSome, MatchResult, length};
 ghost use Rattle.command_streams.specs.Streams.{TakesAtMost};
 ghost use Rattle.command_streams.specs.Writing.{IsWritingOf};
-ghost use Rattle.age_variants.specs.Aging.{IsAging};
+ghost use Rattle.endless_schedules.specs.Aging.{IsAging};
 ghost use Rattle.rates_command.specs.declared.limits.TheConstants.{RATES_LIMIT};
 ghost use Rattle.age_command.specs.Chains.{HasName, loose};
 ghost use Rattle.age_command.specs.Texts.{end_told};
@@ -13,10 +13,9 @@ use crate::age_answer::end_of;
 use crate::age_texts::texts_of;
 use crate::ending::AgeEnd;
 use crate::naming::chain_named;
-use age_variants::{Aging, with_bound};
 use command_streams::{End, Fault, Texts, write_texts};
-use least_ages::{LeastAge, least_age};
-use plan_questions::{Asking, Gate};
+use endless_schedules::{Aging, unroll, with_bound};
+use plan_questions::{Asking, Gate, LeastAge, least_age};
 use question_commands::Beside;
 use rates_command::{RatesEnd, RatesFault, read_rates};
 use rates_model::Rates;
@@ -26,7 +25,6 @@ use std::marker::Sync;
 use std::sync::Wait;
 use std::thread::Threads;
 use ttp_model::MOST_TICKS;
-use unrolled_jobs::unroll;
 
 /// What searches say of how old what a chain carries has to be, with the texts that tell it.
 #[derive(Drop)]

@@ -13,10 +13,10 @@ use Rattle.rates_model.specs.Rates.{Rates, chain_at, period_of, process_at}
 use Rattle.rates_model.specs.Cycles.{cycle, horizon_of, jobs_of}
 use Rattle.rates_model.specs.Ages.{age_deadline, cycles_back, last_of}
 use Rattle.rates_model.specs.Rules.{IsRates}
-use Rattle.unrolled_jobs.specs.Times.{carried_release, job_deadline}
-use Rattle.unrolled_jobs.specs.Unrolled.{unrolled, unrolled_processes}
+use Rattle.endless_schedules.specs.Times.{carried_release, job_deadline}
+use Rattle.endless_schedules.specs.Unrolled.{unrolled, unrolled_processes}
 use Rattle.endless_schedules.specs.Runs.{IsRun, Job, Run, Store, place_of}
-use Rattle.endless_schedules.proofs.Deadlines.{EndsYoung, in_time_from, in_time_tells}
+use Rattle.endless_schedules.proofs.KeptDeadlines.{EndsYoung, in_time_from, in_time_tells}
 use Rattle.endless_schedules.proofs.RunPlaces.{place_inside, run_at, ticks_are, to_end_by, to_store_by}
 use Rattle.instance_variants.proofs.Varied.{turned}
 use Rattle.instance_variants.proofs.VariedPlans.{valid_across}

@@ -20,13 +20,13 @@ use Rattle.rates_model.specs.Cycles.{cycle, horizon_of, jobs_of, rounds_in}
 use Rattle.rates_model.specs.Reads.{last_begun}
 use Rattle.rates_model.specs.Ages.{age_deadline, last_of}
 use Rattle.rates_model.specs.Rules.{IsRates}
-use Rattle.unrolled_jobs.specs.Stores.{first_store, job_index, storing_nodes}
-use Rattle.unrolled_jobs.specs.Unrolled.{readers, unrolled, unrolled_messages}
+use Rattle.endless_schedules.specs.Stores.{first_store, job_index, storing_nodes}
+use Rattle.endless_schedules.specs.Unrolled.{readers, unrolled, unrolled_messages}
 use Rattle.endless_schedules.specs.Runs.{IsRun, Job, Run, Store, ends_at, home_of, place_of, starts_at, ticks_of}
 use Rattle.endless_schedules.specs.Sent.{bus_of, cycle_bytes, frame_bytes, job_bytes, opens_at, sender_jobs, sender_node, sent_channel, sent_from, sent_place, sent_round, sent_until}
 use Rattle.endless_schedules.specs.Endless.{IsEndless, IsFormed, ReadsIn, Receives}
 use Rattle.endless_schedules.proofs.Chains.{last_is, some_jobs, young_in_one}
-use Rattle.endless_schedules.proofs.Deadlines.{EndsYoung, in_time_from}
+use Rattle.endless_schedules.proofs.KeptDeadlines.{EndsYoung, in_time_from}
 use Rattle.endless_schedules.proofs.Frames.{by_jobs, of_job}
 use Rattle.endless_schedules.proofs.LinkPlaces.{after_is, before_is, link_of_place, many}
 use Rattle.endless_schedules.proofs.ReadJobs.{begun_below, reads_before, reads_same, some_period}

@@ -9,7 +9,7 @@ use Rattle.rates_model.specs.Reads.{job_from_all}
 use Rattle.rates_model.specs.Ages.{carried, cycles_back, first_of, last_of, release_from_all}
 use Rattle.rates_model.specs.Rules.{IsRates}
 use Rattle.rates_model.proofs.Periods.{cycle_common, jobs_whole}
-use Rattle.unrolled_jobs.specs.Unrolled.{unrolled}
+use Rattle.endless_schedules.specs.Unrolled.{unrolled}
 use Rattle.endless_schedules.specs.Carried.{Carries}
 use Rattle.endless_schedules.specs.Runs.{Job, place_of}
 use Rattle.endless_schedules.proofs.Chains.{carries_later, far_enough, last_is, one_carried, some_jobs}

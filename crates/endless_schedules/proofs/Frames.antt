@@ -5,9 +5,9 @@ use Rattle.std.proofs.lemmas.Bool.Decides.{eqb_tells}
 use Rattle.ttp_model.specs.Totals.{total}
 use Rattle.ttp_model.proofs.Totals.{total_more, total_none, total_same}
 use Rattle.rates_model.specs.Rates.{Rates}
-use Rattle.unrolled_jobs.specs.Unrolled.{readers, unrolled_messages}
+use Rattle.endless_schedules.specs.Unrolled.{readers, unrolled_messages}
 use Rattle.endless_schedules.specs.Sent.{sender_jobs, sends, sent_place}
-use Rattle.endless_schedules.proofs.Pieces.{total_pieces}
+use Rattle.endless_schedules.proofs.JoinedPieces.{total_pieces}
 use Rattle.endless_schedules.proofs.SentPlaces.{all_sent, place_is, sent_in_all}
 
 -- a sum all of whose terms but one are nothing

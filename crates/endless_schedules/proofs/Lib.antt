@@ -1,12 +1,26 @@
+pub mod Lists
+pub mod Counts
+pub mod TooMany
+pub mod Aged
+pub mod Nodes
+pub mod Pieces
+pub mod Found
+pub mod Waits
+mod RulesKept
+pub mod OwnAges
+mod AgedDeadlines
+mod AgedProcesses
+pub mod AgeWindows
+mod LaterEnds
 mod MappedAt
-mod Pieces
+mod JoinedPieces
 mod Members
 pub mod ReadJobs
 pub mod RunPlaces
 mod Readers
 mod SentPlaces
 mod LinkPlaces
-pub mod Deadlines
+pub mod KeptDeadlines
 mod StoringNodes
 pub mod Chains
 mod Rounds

@@ -10,9 +10,9 @@ use Rattle.rates_model.specs.declared.parts.RatesLink.{RatesLink}
 use Rattle.rates_model.specs.Rates.{Rates, link_at, no_link}
 use Rattle.rates_model.specs.Cycles.{jobs_of}
 use Rattle.rates_model.specs.Reads.{last_begun}
-use Rattle.unrolled_jobs.specs.Stores.{job_index}
-use Rattle.unrolled_jobs.specs.Unrolled.{link_to, links_of, unrolled, unrolled_links}
-use Rattle.endless_schedules.proofs.Pieces.{piece_at, pieces_length, pieces_of_list, split, within_total}
+use Rattle.endless_schedules.specs.Stores.{job_index}
+use Rattle.endless_schedules.specs.Unrolled.{link_to, links_of, unrolled, unrolled_links}
+use Rattle.endless_schedules.proofs.JoinedPieces.{piece_at, pieces_length, pieces_of_list, split, within_total}
 
 module _ (rho : Rates) where
   links_at : (l : RatesLink) → l.delay ≡ 0 → links_of rho l ≡ map (link_to rho l) (range_with_len 0 (jobs_of rho l.after))

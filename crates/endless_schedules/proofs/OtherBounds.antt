@@ -10,9 +10,9 @@ use Rattle.rates_model.specs.Rates.{Rates, chain_at, no_chain, message_at}
 use Rattle.rates_model.specs.Cycles.{cycle, horizon_of}
 use Rattle.rates_model.specs.Reads.{job_from_all, last_begun}
 use Rattle.rates_model.specs.Ages.{age_deadline, carried, cycles_back, first_of, last_of, release_from_all, wait_of}
-use Rattle.unrolled_jobs.specs.Stores.{first_store, job_index, storing_nodes}
-use Rattle.unrolled_jobs.specs.Times.{carried_release}
-use Rattle.unrolled_jobs.specs.Unrolled.{job, job_message, jobs_reading, link_to, links_of, messages_of, readers, sent_of, store, stores_reading, unrolled, unrolled_processes}
+use Rattle.endless_schedules.specs.Stores.{first_store, job_index, storing_nodes}
+use Rattle.endless_schedules.specs.Times.{carried_release}
+use Rattle.endless_schedules.specs.Unrolled.{job, job_message, jobs_reading, link_to, links_of, messages_of, readers, sent_of, store, stores_reading, unrolled, unrolled_processes}
 use Rattle.endless_schedules.specs.Runs.{IsRun, Job, Run, Store, place_of}
 use Rattle.endless_schedules.proofs.RunPlaces.{all_long, job_at, run_at, store_at}
 use Rattle.instance_variants.specs.Variants.{DifferInTimes, with_times}

@@ -9,8 +9,8 @@ use Rattle.rates_model.specs.declared.parts.RatesMessage.{RatesMessage}
 use Rattle.rates_model.specs.Rates.{Rates, message_at}
 use Rattle.rates_model.specs.Cycles.{jobs_of}
 use Rattle.rates_model.specs.Reads.{last_begun, reads_now}
-use Rattle.unrolled_jobs.specs.Stores.{first_store, job_index, storing_nodes}
-use Rattle.unrolled_jobs.specs.Unrolled.{jobs_reading, readers, stores_reading}
+use Rattle.endless_schedules.specs.Stores.{first_store, job_index, storing_nodes}
+use Rattle.endless_schedules.specs.Unrolled.{jobs_reading, readers, stores_reading}
 use Rattle.endless_schedules.proofs.Members.{All-below, All-filter, All-flat_map, Contains-below, Contains-filter, Contains-flat_map, Contains-map}
 
 -- on plain numbers: n jobs a cycle; b is the last that has begun

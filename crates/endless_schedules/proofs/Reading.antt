@@ -8,9 +8,9 @@ use Rattle.rates_model.specs.declared.parts.Chain.{Chain}
 use Rattle.rates_model.specs.Rates.{Rates, period_of, process_at}
 use Rattle.rates_model.specs.Cycles.{cycle, jobs_of}
 use Rattle.rates_model.specs.Ages.{last_of}
-use Rattle.unrolled_jobs.specs.Stores.{job_index}
-use Rattle.unrolled_jobs.specs.Times.{carried_release}
-use Rattle.unrolled_jobs.specs.Unrolled.{unrolled}
+use Rattle.endless_schedules.specs.Stores.{job_index}
+use Rattle.endless_schedules.specs.Times.{carried_release}
+use Rattle.endless_schedules.specs.Unrolled.{unrolled}
 use Rattle.endless_schedules.specs.Runs.{Job, place_of}
 use Rattle.endless_schedules.proofs.RunPlaces.{place_inside}
 use Rattle.endless_schedules.proofs.ForEver.{first_start, late_age}

@@ -12,7 +12,7 @@ use Rattle.ttp_model.specs.Slots.{round_length, slot_duration}
 use Rattle.rates_model.specs.declared.parts.RatesNode.{RatesNode}
 use Rattle.rates_model.specs.Rates.{Rates, no_node}
 use Rattle.rates_model.specs.Cycles.{round_of}
-use Rattle.unrolled_jobs.specs.Unrolled.{unrolled, unrolled_node}
+use Rattle.endless_schedules.specs.Unrolled.{unrolled, unrolled_node}
 use Rattle.endless_schedules.specs.Sent.{bus_of}
 use Rattle.endless_schedules.proofs.MappedAt.{mapped_at}
 

@@ -11,12 +11,12 @@ use Rattle.ttp_model.proofs.Totals.{total_same}
 use Rattle.rates_model.specs.Rates as rates
 use Rattle.rates_model.specs.Rates.{Rates, message_at, no_message, period_of}
 use Rattle.rates_model.specs.Cycles.{horizon_of, jobs_of}
-use Rattle.unrolled_jobs.specs.Stores.{all_jobs, first_store, job_index, storing_nodes}
-use Rattle.unrolled_jobs.specs.Times.{job_deadline}
-use Rattle.unrolled_jobs.specs.Unrolled.{job, jobs, store, stores, unrolled, unrolled_processes}
+use Rattle.endless_schedules.specs.Stores.{all_jobs, first_store, job_index, storing_nodes}
+use Rattle.endless_schedules.specs.Times.{job_deadline}
+use Rattle.endless_schedules.specs.Unrolled.{job, jobs, store, stores, unrolled, unrolled_processes}
 use Rattle.endless_schedules.specs.Runs.{IsRun, Job, Run, Store, home_of, place_of, ticks_of}
 use Rattle.endless_schedules.proofs.MappedAt.{mapped_at}
-use Rattle.endless_schedules.proofs.Pieces.{piece_at, pieces_length, pieces_of_list, same_split, split, within_total}
+use Rattle.endless_schedules.proofs.JoinedPieces.{piece_at, pieces_length, pieces_of_list, same_split, split, within_total}
 
 module _ (rho : Rates) where
   -- how many stores message m has

@@ -8,10 +8,10 @@ use Rattle.ttp_model.specs.Instance as instance
 use Rattle.ttp_model.specs.Totals.{total}
 use Rattle.ttp_model.proofs.Totals.{total_same}
 use Rattle.rates_model.specs.Rates.{Rates, message_at}
-use Rattle.unrolled_jobs.specs.Stores.{job_index}
-use Rattle.unrolled_jobs.specs.Unrolled.{job_message, messages_of, readers, sent_of, unrolled, unrolled_messages}
+use Rattle.endless_schedules.specs.Stores.{job_index}
+use Rattle.endless_schedules.specs.Unrolled.{job_message, messages_of, readers, sent_of, unrolled, unrolled_messages}
 use Rattle.endless_schedules.specs.Sent.{sender_jobs, sends, sent_place}
-use Rattle.endless_schedules.proofs.Pieces.{piece_at, pieces_length, split, within_total}
+use Rattle.endless_schedules.proofs.JoinedPieces.{piece_at, pieces_length, split, within_total}
 
 -- one, or none where there are none
 abbrev one_of : ℕ → ℕ

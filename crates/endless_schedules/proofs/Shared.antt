@@ -13,8 +13,8 @@ use Rattle.rates_model.specs.Rates.{Rates, link_at, message_at, node_of, period_
 use Rattle.rates_model.specs.Cycles.{cycle, horizon_of, jobs_of, round_of}
 use Rattle.rates_model.specs.Reads.{last_begun}
 use Rattle.rates_model.specs.Rules.{IsRates}
-use Rattle.unrolled_jobs.specs.Stores.{first_store, storing_nodes}
-use Rattle.unrolled_jobs.specs.Unrolled.{readers, unrolled}
+use Rattle.endless_schedules.specs.Stores.{first_store, storing_nodes}
+use Rattle.endless_schedules.specs.Unrolled.{readers, unrolled}
 use Rattle.endless_schedules.specs.Runs.{IsRun, Job, Run, Store, home_of, place_of, ticks_of}
 use Rattle.endless_schedules.specs.Sent.{sender_jobs, sender_node, sent_place}
 use Rattle.endless_schedules.specs.Endless.{IsStoredFor, ReadsIn, Receives}

@@ -22,14 +22,14 @@ use Rattle.rates_model.specs.Cycles.{cycle, horizon_of, jobs_of, rounds_in}
 use Rattle.rates_model.specs.Reads.{last_begun}
 use Rattle.rates_model.specs.Ages.{last_of}
 use Rattle.rates_model.specs.Rules.{IsRates}
-use Rattle.unrolled_jobs.specs.Stores.{first_store, job_index}
-use Rattle.unrolled_jobs.specs.Unrolled.{readers, unrolled}
+use Rattle.endless_schedules.specs.Stores.{first_store, job_index}
+use Rattle.endless_schedules.specs.Unrolled.{readers, unrolled}
 use Rattle.rates_model.proofs.Periods.{jobs_whole}
 use Rattle.endless_schedules.specs.Runs.{IsRun, Job, Run, Store, ends_at, home_of, place_of, starts_at, ticks_of}
 use Rattle.endless_schedules.specs.Sent.{bus_of, cycle_bytes, frame_bytes, job_bytes, opens_at, sender_jobs, sender_node, sent_channel, sent_from, sent_place, sent_round, sent_until}
 use Rattle.endless_schedules.specs.Endless.{AreAllReady, AreAllStored, AreApartForEver, AreInTime, AreReleased, AreSentWithinRounds, AreWithinRounds, AreYoung, HaveAllArrived, HoldAllFrames, IsEndless, IsFormed, KeepAllLinks, ReadsIn, Receives}
 use Rattle.endless_schedules.proofs.Chains.{last_is, young_for_ever}
-use Rattle.endless_schedules.proofs.Deadlines.{EndsYoung, in_time_tells}
+use Rattle.endless_schedules.proofs.KeptDeadlines.{EndsYoung, in_time_tells}
 use Rattle.endless_schedules.proofs.Frames.{by_jobs, of_job, one_term}
 use Rattle.endless_schedules.proofs.LinkPlaces.{after_is, before_is, link_inside, many}
 use Rattle.endless_schedules.proofs.ReadJobs.{read_tells}

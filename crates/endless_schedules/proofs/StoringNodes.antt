@@ -7,7 +7,7 @@ use Rattle.std.proofs.lemmas.List.{get_or_default}
 use Rattle.std.proofs.lemmas.List.Elements.{All-get_or, All-map, All-push, Contains-append_left, Contains-push}
 use Rattle.rates_model.specs.declared.parts.RatesMessage.{RatesMessage}
 use Rattle.rates_model.specs.Rates.{Rates, node_of}
-use Rattle.unrolled_jobs.specs.Stores.{each_once, receiving_nodes, storing_nodes, with_new}
+use Rattle.endless_schedules.specs.Stores.{each_once, receiving_nodes, storing_nodes, with_new}
 use Rattle.endless_schedules.proofs.Members.{Contains-cons, Contains-map}
 
 any_has : (xs : List ℕ) (x : ℕ) → list_any (λ y. y == x) xs ≡ true → Contains xs x

@@ -10,10 +10,10 @@ use Rattle.ttp_model.specs.Worked.{node_with, plain_cluster}
 use Rattle.ttp_model.specs.Graph.{IsClosedWalk, Leads}
 use Rattle.ttp_model.specs.Rules.{IsCapacityList, IsInRange, IsInstance, IsName, IsNamed, IsNewName, IsProcess, IsProcessInRange, NamesWhatIsThere}
 use Rattle.rates_model.specs.Cycles.{cycle, least_multiple, least_times}
-use Rattle.unrolled_jobs.specs.Names.{numbered, stored_name}
-use Rattle.unrolled_jobs.specs.Stores.{first_store, job_index, storing_nodes, with_new}
-use Rattle.unrolled_jobs.specs.Times.{job_deadline}
-use Rattle.unrolled_jobs.specs.Unrolled.{job, job_message, jobs, jobs_reading, link_to, links_of, messages_of, readers, sent_of, store, stores, stores_reading, unrolled, unrolled_node}
+use Rattle.endless_schedules.specs.Names.{numbered, stored_name}
+use Rattle.endless_schedules.specs.Stores.{first_store, job_index, storing_nodes, with_new}
+use Rattle.endless_schedules.specs.Times.{job_deadline}
+use Rattle.endless_schedules.specs.Unrolled.{job, job_message, jobs, jobs_reading, link_to, links_of, messages_of, readers, sent_of, store, stores, stores_reading, unrolled, unrolled_node}
 use Rattle.endless_schedules.specs.Worked.{late_jobs, late_pair, tick_on}
 use Rattle.endless_schedules.proofs.WorkedRules.{all_of_one, letter, none, one, other_letter, two}
 

@@ -3,7 +3,7 @@ use Rattle.std.specs.Prelude.{ℕ, ◌≤◌, slice_set}
 use Rattle.ttp_model.specs.declared.plan.Plan.{Plan}
 use Rattle.ttp_model.specs.Plans.{IsValid}
 use Rattle.rates_model.specs.Rates.{Rates, chain_at}
-use Rattle.unrolled_jobs.specs.Unrolled.{unrolled}
+use Rattle.endless_schedules.specs.Unrolled.{unrolled}
 use Rattle.endless_schedules.specs.Ages.{IsAge}
 
 -- the cluster in which what chain x carries may be so old; all else is as it was

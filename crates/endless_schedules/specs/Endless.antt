@@ -6,8 +6,8 @@ use Rattle.rates_model.specs.Rates.{Rates, chain_at, link_at, message_at, node_o
 use Rattle.rates_model.specs.Cycles.{cycle, horizon_of, jobs_of, rounds_in}
 use Rattle.rates_model.specs.Reads.{Reads, job_from_all}
 use Rattle.rates_model.specs.Ages.{first_of, last_of, release_from_all}
-use Rattle.unrolled_jobs.specs.Stores.{storing_nodes}
-use Rattle.unrolled_jobs.specs.Unrolled.{unrolled}
+use Rattle.endless_schedules.specs.Stores.{storing_nodes}
+use Rattle.endless_schedules.specs.Unrolled.{unrolled}
 use Rattle.endless_schedules.specs.Runs.{IsRun, Job, Run, Store, ends_at, home_of, starts_at}
 use Rattle.endless_schedules.specs.Sent.{frame_bytes, opens_at, sender_jobs, sent_from, sent_round, sent_until}
 use Rattle.endless_schedules.specs.Carried.{Carries}

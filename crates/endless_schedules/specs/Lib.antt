@@ -1,3 +1,12 @@
+pub mod Names
+pub mod Times
+pub mod Stores
+pub mod Unrolled
+pub mod Places
+pub mod Faults
+pub mod Tables
+pub mod Refusals
+pub mod Aging
 pub mod Runs
 pub mod Sent
 pub mod Carried

@@ -3,7 +3,7 @@ use Rattle.std.specs.Prelude.{ℕ, ◌+◌, ◌*◌, ◌<◌, length, slice_inde
 use Rattle.ttp_model.specs.declared.plan.Plan.{Plan}
 use Rattle.rates_model.specs.Rates.{Rates, message_at, node_of, process_at}
 use Rattle.rates_model.specs.Cycles.{cycle, jobs_of}
-use Rattle.unrolled_jobs.specs.Stores.{first_store, job_index, storing_nodes}
+use Rattle.endless_schedules.specs.Stores.{first_store, job_index, storing_nodes}
 
 -- a job of a process; or the store of a message, at one of the nodes that store it
 pub data Run : Type 0 where

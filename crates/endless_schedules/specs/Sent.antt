@@ -7,7 +7,7 @@ use Rattle.ttp_model.specs.Slots.{slot_end, slot_start}
 use Rattle.ttp_model.specs.Totals.{total}
 use Rattle.rates_model.specs.Rates.{Rates, message_at, node_of}
 use Rattle.rates_model.specs.Cycles.{bus_for, cycle, horizon_of, jobs_of}
-use Rattle.unrolled_jobs.specs.Unrolled.{readers}
+use Rattle.endless_schedules.specs.Unrolled.{readers}
 
 -- the bus of the cluster
 abbrev pub bus_of : Rates → Cluster

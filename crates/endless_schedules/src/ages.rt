@@ -5,15 +5,15 @@ ghost use Rattle.ttp_model.specs.Plans.{IsValid};
 ghost use Rattle.rates_model.specs.declared.limits.TheConstants.{LEAST_THROUGH, MOST_THROUGH};
 ghost use Rattle.rates_model.specs.Rates.{chain_at};
 ghost use Rattle.rates_model.specs.Rules.{IsRatesProcess};
-ghost use Rattle.unrolled_jobs.specs.Times.{waits_along};
-ghost use Rattle.unrolled_jobs.specs.Unrolled.{unrolled};
+ghost use Rattle.endless_schedules.specs.Times.{waits_along};
+ghost use Rattle.endless_schedules.specs.Unrolled.{unrolled};
 ghost use Rattle.endless_schedules.specs.Ages.{IsAge};
 
+use crate::carrying::{carried_release, waits_along};
 use crate::first_jobs::first_job;
 use rates_model::{Chain, Rates};
 use std::alloc::Global;
 use ttp_model::{MemoryFault, Plan};
-use unrolled_jobs::{carried_release, waits_along};
 
 /// The greatest age of what jobs of a chain's last process carry, told by one cycle in which none reaches back to one before all. Takes no
 /// memory.

@@ -6,7 +6,7 @@ ghost use Rattle.ttp_model.specs.Rules.{IsInstance};
 ghost use Rattle.ttp_model.specs.Plans.{IsValid};
 ghost use Rattle.rates_model.specs.Rates.{Rates};
 ghost use Rattle.rates_model.specs.Rules.{IsRates};
-ghost use Rattle.unrolled_jobs.specs.Unrolled.{unrolled};
+ghost use Rattle.endless_schedules.specs.Unrolled.{unrolled};
 ghost use Rattle.endless_schedules.specs.Clocks.{StartBehindFrames, StoreBehindFrames};
 ghost use Rattle.endless_schedules.specs.Endless.{IsEndless, IsFormed, IsStoredFor, Receives};
 

@@ -3,7 +3,7 @@
 ghost use Rattle.std.specs.Prelude.{◌<◌, length};
 ghost use Rattle.ttp_model.specs.Rules.{IsInstance};
 ghost use Rattle.ttp_model.specs.Plans.{IsValid};
-ghost use Rattle.unrolled_jobs.specs.Unrolled.{unrolled};
+ghost use Rattle.endless_schedules.specs.Unrolled.{unrolled};
 ghost use Rattle.endless_schedules.specs.Spreads.{IsSpread};
 
 use crate::first_jobs::first_job;

@@ -1,3 +1,8 @@
+mod ChainLines
+mod RefusalsTold
+mod StepLines
+mod TextFaults
+mod TreeLines
 pub mod Refused
 pub mod Earliest
 pub mod FirstFault

@@ -6,10 +6,10 @@ use Rattle.instance_reasons.specs.declared.described.Sizes.{Sizes}
 use Rattle.instance_reasons.specs.declared.reason.InstanceReason.{InstanceReason}
 use Rattle.instance_reasons.specs.Described.{AreSizes}
 use Rattle.instance_reasons.specs.Reasons.{IsInstanceReason}
-use Rattle.cause_chains.specs.declared.late_lines.LateProcesses.{LateProcesses}
-use Rattle.cause_chains.specs.declared.path_lines.PathChain.{PathChain}
-use Rattle.cause_chains.specs.LateLines.{AreLate}
-use Rattle.cause_chains.specs.PathLines.{IsPathChain}
+use Rattle.plan_reasons.specs.declared.late_lines.LateProcesses.{LateProcesses}
+use Rattle.plan_reasons.specs.declared.path_lines.PathChain.{PathChain}
+use Rattle.plan_reasons.specs.LateLines.{AreLate}
+use Rattle.plan_reasons.specs.PathLines.{IsPathChain}
 use Rattle.sentences.specs.Shown.{Gains, IsShown}
 use Rattle.command_streams.specs.Endings.{fault_status}
 use Rattle.command_streams.specs.Instances.{HasInstance, IsInstanceFault}

@@ -10,8 +10,8 @@ use Rattle.plan_format.specs.declared.fault.LineFault.{LineFault}
 use Rattle.plan_format.specs.declared.fault.PlanTextError.TheVariants.{At}
 use Rattle.plan_format.specs.Spelling.{SpellsPlan}
 use Rattle.plan_format.specs.Reading.{plan_at}
-use Rattle.cause_chains.specs.declared.plan_lines.PlanChain.{PlanChain}
-use Rattle.cause_chains.specs.PlanLines.{IsChainReason}
+use Rattle.plan_reasons.specs.declared.plan_lines.PlanChain.{PlanChain}
+use Rattle.plan_reasons.specs.PlanLines.{IsChainReason}
 use Rattle.plan_reasons.specs.declared.cycles.Cycle.{Cycle}
 use Rattle.plan_reasons.specs.declared.delays.OtherDelay.{OtherDelay}
 use Rattle.plan_reasons.specs.declared.lines.LineReason.{LineReason}

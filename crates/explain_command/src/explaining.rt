@@ -15,13 +15,13 @@ ghost use Rattle.explain_command.specs.Plans.{IsPlanUnread, TellsPlanBytes};
 use crate::certificates::told_certificate;
 use crate::instances::{Stated, stated_of_bytes};
 use crate::plans::told_printed;
-use cause_chains::{late_reason, path_chain_reason};
 use command_streams::{
     CERTIFICATE_LIMIT, End, Fault, INSTANCE_LIMIT, PLAN_LIMIT, Source, end_with, read_all,
 };
 use instance_reasons::sizes_of;
 use json_answers::Reasons;
 use plan_commands::{front_of, read_printed};
+use plan_reasons::{late_reason, path_chain_reason};
 use sentences::put;
 use std::alloc::Global;
 use std::io::{Read, Write};

@@ -11,12 +11,11 @@ ghost use Rattle.explain_command.specs.Plans.{TellsBroken, TellsMisstated, Tells
 
 use crate::mistaken::first_line_words;
 use crate::telling::{put_line, put_valid_line};
-use cause_chains::plan_chain_reason;
 use command_streams::Fault;
 use json_answers::Reasons;
 use plan_commands::{Front, bare_fault};
 use plan_format::{LineFault, PlanTextError, read};
-use plan_reasons::{cycle_of, line_reason, other_delay, reason_of};
+use plan_reasons::{cycle_of, line_reason, other_delay, plan_chain_reason, reason_of};
 use sentences::put;
 use std::alloc::Global;
 use ttp_model::{Instance, MemoryFault, Plan, PlanFault};

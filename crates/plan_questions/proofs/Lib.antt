@@ -1,3 +1,4 @@
+pub mod AgeCuts
 pub mod Halves
 pub mod Shown
 pub mod LateCuts

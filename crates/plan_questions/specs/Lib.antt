@@ -1,3 +1,5 @@
+pub mod LeastAges
+pub mod AgeHalving
 pub mod Searches
 pub mod Cuts
 pub mod Halving

@@ -2,6 +2,7 @@
 //! end, and why is there none?
 #![tactic(auto)]
 
+mod ages;
 mod asking;
 mod conflicts;
 mod cuts;
@@ -11,6 +12,7 @@ mod limits;
 mod margins;
 mod sought;
 
+pub use ages::{LeastAge, ages_have_certificate_texts, least_age};
 pub use asking::Asking;
 pub use conflicts::{
     Conflict, FirstAnswer, Need, conflicts_leave_no_plan, first_answer, marked, next_need,

@@ -1,3 +1,17 @@
+pub mod AllLate
+pub mod Growing
+pub mod Holding
+pub mod OneChain
+pub mod PathFalling
+pub mod PathLeading
+pub mod PathShort
+pub mod PlanFalling
+pub mod PlanLeading
+pub mod PlanShort
+pub mod Rooms
+pub mod Settled
+pub mod LateEnds
+pub mod Waiting
 pub mod Failing
 pub mod FirstRounds
 pub mod Places

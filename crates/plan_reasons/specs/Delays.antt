@@ -4,7 +4,7 @@ use Rattle.ttp_model.specs.declared.plan.Plan.{Plan}
 use Rattle.ttp_model.specs.Delays.{delay}
 use Rattle.ttp_model.specs.Instance.{Instance}
 use Rattle.ttp_model.specs.Names.{place_name, process_name}
-use Rattle.cause_chains.specs.PlanChains.{IsLastToEnd}
+use Rattle.plan_reasons.specs.PlanChains.{IsLastToEnd}
 use Rattle.plan_reasons.specs.declared.delays.OtherDelay.{OtherDelay}
 use Rattle.plan_reasons.specs.Differences.{IsDifference}
 

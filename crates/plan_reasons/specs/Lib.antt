@@ -1,3 +1,14 @@
+pub mod Limits
+pub mod Runs
+pub mod PlanCauses
+pub mod PlanChains
+pub mod PlanLines
+pub mod PlanThere
+pub mod PathChains
+pub mod PathLines
+pub mod PathThere
+pub mod Late
+pub mod LateLines
 pub mod Differences
 pub mod Lists
 pub mod Processes

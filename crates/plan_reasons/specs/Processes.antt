@@ -9,7 +9,7 @@ use Rattle.plan_reasons.specs.declared.processes.BrokenLink.{BrokenLink}
 use Rattle.plan_reasons.specs.declared.processes.Overlap.{Overlap}
 use Rattle.plan_reasons.specs.declared.processes.TooEarly.{TooEarly}
 use Rattle.plan_reasons.specs.declared.processes.TooLate.{TooLate}
-use Rattle.cause_chains.specs.Limits.{IsLimit}
+use Rattle.plan_reasons.specs.Limits.{IsLimit}
 
 -- process p starts before its release
 pub record IsTooEarly (i : Instance) (plan : Plan) (p : ℕ) (r : TooEarly) : Type 0 where

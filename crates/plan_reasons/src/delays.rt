@@ -6,7 +6,7 @@ ghost use Rattle.ttp_model.specs.Plans.{HasLengths};
 ghost use Rattle.plan_reasons.specs.Delays.{IsOtherDelay};
 
 use crate::differences::{Difference, difference_of};
-use cause_chains::last_to_end;
+use crate::plan_links::last_to_end;
 use sentences::Word::{Number, Text, Ticks};
 use sentences::{Member, tell, write_members};
 use serde::{Described, Serialize, Serializer};

@@ -6,7 +6,7 @@ ghost use Rattle.ttp_model.specs.Plans.{HasLengths, end_of, start_of};
 ghost use Rattle.plan_facts.specs.Ends.{must_end_by};
 ghost use Rattle.plan_reasons.specs.Processes.{IsBrokenLink, IsOverlap, IsTooEarly, IsTooLate};
 
-use cause_chains::{Limit, limit_of};
+use crate::limits::{Limit, limit_of};
 use plan_facts::{late_by, must_end_by};
 use sentences::Word::{Number, Text, Ticks};
 use sentences::{Member, tell, write_members};

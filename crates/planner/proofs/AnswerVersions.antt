@@ -8,17 +8,17 @@ use Rattle.certificate.specs.Versions.{answer_version, Allows}
 use Rattle.certificate.specs.declared.node.Node.{Node}
 use Rattle.certificate.specs.Cert.{Cert}
 use Rattle.certificate.specs.Trees.{preorder}
-use Rattle.begun_search.specs.Begun.{is_open}
-use Rattle.begun_search.specs.Ends.{IsAnswerOf}
-use Rattle.begun_search.specs.Proofs.{Proves}
-use Rattle.begun_search.specs.Searching.{aim_of}
-use Rattle.begun_search.specs.declared.parts.Portion.{Portion}
-use Rattle.begun_search.specs.found.FoundPlan.{FoundPlan}
-use Rattle.begun_search.proofs.OneChannel.{answer_version_allows}
-use Rattle.begun_search.specs.outcome.Options.{Options}
-use Rattle.begun_search.specs.outcome.Outcome.{Outcome}
-use Rattle.begun_search.specs.outcome.Outcome.TheVariants.{Optimal, Infeasible, Stopped}
-use Rattle.begun_search.specs.outcome.Why.{Why}
+use Rattle.planner.specs.Begun.{is_open}
+use Rattle.search_workers.specs.Ends.{IsAnswerOf}
+use Rattle.dropped_decisions.specs.Proofs.{Proves}
+use Rattle.search_workers.specs.Searching.{aim_of}
+use Rattle.planner.specs.declared.parts.Portion.{Portion}
+use Rattle.search_workers.specs.declared.found.FoundPlan.{FoundPlan}
+use Rattle.dropped_decisions.proofs.OneChannel.{answer_version_allows}
+use Rattle.search_workers.specs.declared.outcome.Options.{Options}
+use Rattle.search_workers.specs.declared.outcome.Outcome.{Outcome}
+use Rattle.search_workers.specs.declared.outcome.Outcome.TheVariants.{Optimal, Infeasible, Stopped}
+use Rattle.search_workers.specs.declared.outcome.Why.{Why}
 use Rattle.planner.specs.Answers.{cert_of, from_low, IsOutcome}
 use Rattle.planner.specs.Onward.{further, IsOnward, IsOwn, IsRaised}
 

@@ -7,21 +7,21 @@ use Rattle.ttp_model.specs.Instance.{Instance}
 use Rattle.ttp_model.specs.Rules.{IsInstance}
 use Rattle.certificate.specs.declared.node.Node.{Node}
 use Rattle.certificate.specs.declared.node.Node.TheVariants as node
-use Rattle.begun_search.specs.piece.Piece.{Piece}
-use Rattle.begun_search.specs.Task.{Task, IsTask}
+use Rattle.search_workers.specs.piece.Piece.{Piece}
+use Rattle.search_workers.specs.Task.{Task, IsTask}
 use Rattle.incumbent.specs.declared.word.Incumbent.{Incumbent}
 use Rattle.incumbent.specs.Watch.{first_value, seen, offers, IsLeast}
-use Rattle.begun_search.specs.Hand.{all_pushed, all_taken}
-use Rattle.begun_search.specs.aims.Aims.{Aims}
-use Rattle.begun_search.specs.Goals.{goals_of, goals_at, IsReached}
-use Rattle.begun_search.specs.Tasks.{tasks_of, all_born}
+use Rattle.search_workers.specs.Hand.{all_pushed, all_taken}
+use Rattle.search_workers.specs.declared.aims.Aims.{Aims}
+use Rattle.search_workers.specs.Goals.{goals_of, goals_at, IsReached}
+use Rattle.search_workers.specs.Tasks.{tasks_of, all_born}
 use Rattle.planner.specs.declared.crew.Crew.{Crew}
-use Rattle.begun_search.specs.Searching.{aim_of, limit_of, IsSearchingOf}
-use Rattle.begun_search.proofs.Goals.{goal_rises}
-use Rattle.begun_search.specs.Gathering.{HasGoal, HaveGoals}
+use Rattle.search_workers.specs.Searching.{aim_of, limit_of, IsSearchingOf}
+use Rattle.search_workers.proofs.Goals.{goal_rises}
+use Rattle.search_workers.specs.Gathering.{HasGoal, HaveGoals}
 use Rattle.planner.specs.Crew.{HasLeft, HaveEnded}
-use Rattle.begun_search.proofs.Searching.{first_is, then_is}
-use Rattle.begun_search.proofs.Searching.{none_below}
+use Rattle.search_workers.proofs.Searching.{first_is, then_is}
+use Rattle.search_workers.proofs.Searching.{none_below}
 
 -- one task more is drained
 pub one_drained : {X : Type 0} (t : X) (drained new old begun : List X) → IsPermutation new (t ∷ old) → IsPermutation old (drained ++ begun) → IsPermutation new ((drained ++ t ∷ []) ++ begun)

@@ -7,26 +7,26 @@ use Rattle.std.proofs.lemmas.Grind.{flat_map-append}
 use Rattle.std.proofs.lemmas.List.{append-nil, map-append}
 use Rattle.std.proofs.lemmas.List.Elements.{All-append, All-weaker, All-nil, Contains-append_left, Contains-append_right}
 use Rattle.std.proofs.lemmas.List.Sorted.{IsPermutation-refl, IsPermutation-sym, IsPermutation-trans, IsPermutation-append, IsPermutation-append_left, IsPermutation-append_right, IsPermutation-append_comm}
-use Rattle.begun_search.specs.found.FoundPlan.{FoundPlan}
+use Rattle.search_workers.specs.declared.found.FoundPlan.{FoundPlan}
 use Rattle.ttp_model.specs.Instance.{Instance}
 use Rattle.ttp_model.specs.Rules.{IsInstance}
-use Rattle.begun_search.specs.piece.Piece.{Piece}
-use Rattle.begun_search.specs.Task.{Task, IsTask}
+use Rattle.search_workers.specs.piece.Piece.{Piece}
+use Rattle.search_workers.specs.Task.{Task, IsTask}
 use Rattle.incumbent.specs.declared.word.Incumbent.{Incumbent}
 use Rattle.incumbent.specs.Watch.{seen, offers, out_count, IsOpening}
-use Rattle.begun_search.specs.hand.Hand.{Hand}
-use Rattle.begun_search.specs.Hand.{pushed, taken, IsSameHand, all_pushed, all_taken}
-use Rattle.begun_search.specs.aims.Aims.{Aims}
-use Rattle.begun_search.specs.report.Report.{Report}
-use Rattle.begun_search.specs.Tasks.{Turn, IsTurn, tasks_of, pieces_of, all_born, born}
-use Rattle.begun_search.specs.Goals.{goals_of, goals_at, IsReached}
-use Rattle.begun_search.specs.Best.{IsBestOf}
-use Rattle.begun_search.specs.Report.{held, unpushed}
-use Rattle.begun_search.specs.job.Job.{Job}
+use Rattle.search_workers.specs.hand.Hand.{Hand}
+use Rattle.search_workers.specs.Hand.{pushed, taken, IsSameHand, all_pushed, all_taken}
+use Rattle.search_workers.specs.declared.aims.Aims.{Aims}
+use Rattle.search_workers.specs.declared.report.Report.{Report}
+use Rattle.search_workers.specs.Tasks.{Turn, IsTurn, tasks_of, pieces_of, all_born, born}
+use Rattle.search_workers.specs.Goals.{goals_of, goals_at, IsReached}
+use Rattle.search_workers.specs.Best.{IsBestOf}
+use Rattle.search_workers.specs.Report.{held, unpushed}
+use Rattle.search_workers.specs.declared.job.Job.{Job}
 use Rattle.planner.specs.declared.crew.Crew.{Crew}
-use Rattle.begun_search.specs.Searching.{limit_of, IsBetter, IsFound}
+use Rattle.search_workers.specs.Searching.{limit_of, IsBetter, IsFound}
 use Rattle.planner.specs.Crew.{AreSameHands, AreTogether, Gathers, IsJob, IsReportOfJob, tasks_in, told}
-use Rattle.begun_search.proofs.Searching.{first_is, then_is, interleave, one_only}
+use Rattle.search_workers.proofs.Searching.{first_is, then_is, interleave, one_only}
 
 -- ---- lists
 

@@ -1,7 +1,7 @@
 -- What the tree of a search at its end makes of the best plan.
 use Rattle.std.proofs.Common.{◌≡◌, ℕ, ◌+◌, ◌<◌, ◌≤◌, List, [], ◌∷◌, ◌++◌, inl, inr, Option, None, Some, refl, sym, ap, subst, ◌∙◌, arith, All, IfSome, min}
 use Rattle.std.proofs.lemmas.List.Elements.{All-head, All-tail, All-cons, All-nil, All-append, All-contains, All-weaker}
-use Rattle.begun_search.specs.found.FoundPlan.{FoundPlan}
+use Rattle.search_workers.specs.declared.found.FoundPlan.{FoundPlan}
 use Rattle.ttp_model.specs.Instance.{Instance}
 use Rattle.ttp_model.specs.Chains.{IsPathBound}
 use Rattle.ttp_model.specs.Rules.{IsInstance}
@@ -12,19 +12,19 @@ use Rattle.certificate.specs.declared.node.Node.TheVariants as node
 use Rattle.certificate.specs.Trees.{Trees, none, grow, preorder}
 use Rattle.certificate.specs.Cert.{Cert}
 use Rattle.certificate.specs.Versions.{answer_version}
-use Rattle.begun_search.specs.Proofs.{choices_below, Suits, AreProofs, Proves}
-use Rattle.begun_search.specs.Gathering.{HasGoal}
-use Rattle.begun_search.specs.aims.Aims.{Aims}
-use Rattle.begun_search.proofs.Goals.{goal_near, goal_past}
-use Rattle.begun_search.specs.outcome.Options.{Options}
-use Rattle.begun_search.specs.outcome.Outcome.{Outcome}
-use Rattle.begun_search.specs.outcome.Outcome.TheVariants.{Optimal, Infeasible, Stopped}
-use Rattle.begun_search.specs.outcome.Why.{Why}
-use Rattle.begun_search.specs.outcome.Why.TheVariants.{Budget, Memory, CalledOff, Gap, Part}
-use Rattle.begun_search.specs.Searching.{aim_of, limit_of, IsFound}
-use Rattle.begun_search.specs.Ends.{IsAnswerOf, IsCauseTold, IsFar}
-use Rattle.begun_search.proofs.Searching.{aim_below, weaker_goal}
-use Rattle.begun_search.specs.Branches.{branches}
+use Rattle.dropped_decisions.specs.Proofs.{choices_below, Suits, AreProofs, Proves}
+use Rattle.search_workers.specs.Gathering.{HasGoal}
+use Rattle.search_workers.specs.declared.aims.Aims.{Aims}
+use Rattle.search_workers.proofs.Goals.{goal_near, goal_past}
+use Rattle.search_workers.specs.declared.outcome.Options.{Options}
+use Rattle.search_workers.specs.declared.outcome.Outcome.{Outcome}
+use Rattle.search_workers.specs.declared.outcome.Outcome.TheVariants.{Optimal, Infeasible, Stopped}
+use Rattle.search_workers.specs.declared.outcome.Why.{Why}
+use Rattle.search_workers.specs.declared.outcome.Why.TheVariants.{Budget, Memory, CalledOff, Gap, Part}
+use Rattle.search_workers.specs.Searching.{aim_of, limit_of, IsFound}
+use Rattle.search_workers.specs.Ends.{IsAnswerOf, IsCauseTold, IsFar}
+use Rattle.search_workers.proofs.Searching.{aim_below, weaker_goal}
+use Rattle.dropped_decisions.specs.Branches.{branches}
 use Rattle.planner.specs.Answers.{from_low, IsBestAbove, IsCause, IsOutcome}
 use Rattle.planner.specs.Searched.{AreAims, IsEndAnswer, IsEndTree, IsExhausted, IsLowest, IsReason, HasLeafAt}
 use Rattle.planner.proofs.Searched.{limit_small}

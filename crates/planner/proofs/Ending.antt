@@ -2,24 +2,24 @@
 use Rattle.std.proofs.Common.{◌≡◌, ℕ, zero, suc, ◌<◌, ◌≤◌, min, List, [], ◌∷◌, ◌++◌, Option, ◌⊎◌, inl, inr, ⊎_elim, sym, ap, subst, ◌∙◌, arith, length, get_or, All}
 use Rattle.std.proofs.lemmas.List.{map-append}
 use Rattle.std.proofs.lemmas.List.Elements.{All-append, All-weaker, All-contains, Contains-append_left}
-use Rattle.begun_search.specs.found.FoundPlan.{FoundPlan}
+use Rattle.search_workers.specs.declared.found.FoundPlan.{FoundPlan}
 use Rattle.ttp_model.specs.declared.step.Leaf.{Leaf}
 use Rattle.ttp_model.specs.Instance.{Instance}
 use Rattle.ttp_model.specs.Chains.{IsPathBound}
 use Rattle.certificate.specs.declared.node.Node.TheVariants as node
-use Rattle.begun_search.specs.piece.Piece.{Piece}
-use Rattle.begun_search.specs.Name.{Name}
-use Rattle.begun_search.specs.Task.{Task}
-use Rattle.begun_search.specs.Account.{IsWholeTree}
-use Rattle.begun_search.specs.Work.{IsLeftClosed}
-use Rattle.begun_search.specs.aims.Aims.{Aims}
-use Rattle.begun_search.specs.outcome.Options.{Options}
-use Rattle.begun_search.specs.Searching.{aim_of, IsWorkedOut, task_names, IsSearching}
-use Rattle.begun_search.specs.Gathering.{HasGoal, HaveGoals, AreShallow}
+use Rattle.search_workers.specs.piece.Piece.{Piece}
+use Rattle.search_workers.specs.Name.{Name}
+use Rattle.search_workers.specs.Task.{Task}
+use Rattle.search_workers.specs.Account.{IsWholeTree}
+use Rattle.search_workers.specs.Work.{IsLeftClosed}
+use Rattle.search_workers.specs.declared.aims.Aims.{Aims}
+use Rattle.search_workers.specs.declared.outcome.Options.{Options}
+use Rattle.search_workers.specs.Searching.{aim_of, IsWorkedOut, task_names, IsSearching}
+use Rattle.search_workers.specs.Gathering.{HasGoal, HaveGoals, AreShallow}
 use Rattle.planner.specs.Searched.{IsSearched, IsClosedLeaf, ReachesGoal}
 use Rattle.planner.specs.Closing.{ClosesOne, AreClosed, AreEnds}
-use Rattle.begun_search.specs.outcome.Why.{Why}
-use Rattle.begun_search.proofs.Searching.{last_there, one_only, weaker_goal}
+use Rattle.search_workers.specs.declared.outcome.Why.{Why}
+use Rattle.search_workers.proofs.Searching.{last_there, one_only, weaker_goal}
 use Rattle.planner.proofs.Ends.{closed_ends, ends_right, ends_shallow, ends_whole}
 
 pub end_low : (low limit : ℕ) (closed : List Piece) → (low ≡ limit) ⊎ ((low < limit) × ReachesGoal low closed) → low ≤ limit

@@ -5,20 +5,20 @@ use Rattle.std.proofs.lemmas.List.Elements.{All-append, All-cons, All-contains, 
 use Rattle.ttp_model.specs.Instance.{Instance}
 use Rattle.tt_choice.specs.Choice.{Choice}
 use Rattle.certificate.specs.declared.limits.TheConstants.{MOST_BRANCHES_ABOVE}
-use Rattle.begun_search.specs.Account.{IsWholeTree}
-use Rattle.begun_search.specs.Begun.{AreLeavesOf}
-use Rattle.begun_search.specs.Gathering.{AreShallow, IsLeafPiece}
-use Rattle.begun_search.specs.Name.{Name}
-use Rattle.begun_search.specs.Pieces.{names_of, AreRight, IsRight, StandsAt}
-use Rattle.begun_search.specs.Searching.{task_names, IsSearching}
-use Rattle.begun_search.specs.Task.{Task, choice_of, IsTask}
-use Rattle.begun_search.specs.Tasks.{tasks_of}
-use Rattle.begun_search.specs.aims.Aims.{Aims}
-use Rattle.begun_search.specs.found.FoundPlan.{FoundPlan}
-use Rattle.begun_search.specs.piece.Piece.{Piece}
-use Rattle.begun_search.proofs.Children.{leaf_right}
-use Rattle.begun_search.proofs.Leaves.{closed_right, closed_whole}
-use Rattle.begun_search.proofs.OneChoice.{stands_alone}
+use Rattle.search_workers.specs.Account.{IsWholeTree}
+use Rattle.planner.specs.Begun.{AreLeavesOf}
+use Rattle.search_workers.specs.Gathering.{AreShallow, IsLeafPiece}
+use Rattle.search_workers.specs.Name.{Name}
+use Rattle.search_workers.specs.Pieces.{names_of, AreRight, IsRight, StandsAt}
+use Rattle.search_workers.specs.Searching.{task_names, IsSearching}
+use Rattle.search_workers.specs.Task.{Task, choice_of, IsTask}
+use Rattle.search_workers.specs.Tasks.{tasks_of}
+use Rattle.search_workers.specs.declared.aims.Aims.{Aims}
+use Rattle.search_workers.specs.declared.found.FoundPlan.{FoundPlan}
+use Rattle.search_workers.specs.piece.Piece.{Piece}
+use Rattle.search_workers.proofs.Children.{leaf_right}
+use Rattle.search_workers.proofs.Leaves.{closed_right, closed_whole}
+use Rattle.search_workers.proofs.OneChoice.{stands_alone}
 use Rattle.planner.specs.Closing.{AreClosed, AreEnds, ClosesOne, IsEndOf}
 use Rattle.planner.proofs.Standing.{right, shallow, stands, whole}
 

@@ -4,7 +4,7 @@ use Rattle.std.proofs.lemmas.List.{map-append}
 use Rattle.std.proofs.lemmas.List.Elements.{All-push}
 use Rattle.std.proofs.lemmas.List.Sums.{sum_by_push}
 use Rattle.incumbent.specs.declared.word.Incumbent.{Incumbent}
-use Rattle.begun_search.specs.job.Job.{Job}
+use Rattle.search_workers.specs.declared.job.Job.{Job}
 use Rattle.planner.specs.Crew.{hands_of, budget_of, IsJob}
 
 module _ {J : Type 0} (jobs all : List (Job J)) (job : Job J) (more : all ≡ jobs ++ job ∷ []) where

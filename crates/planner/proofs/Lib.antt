@@ -1,3 +1,12 @@
+pub mod SharpSteps
+pub mod Nodes
+pub mod ChildrenStand
+pub mod Account
+pub mod OpenLeaves
+pub mod GoesOn
+pub mod Through
+pub mod Finished
+pub mod Dealing
 pub mod Shown
 pub mod AnswerVersions
 pub mod OwnCertificates

@@ -7,8 +7,8 @@ use Rattle.ttp_model.specs.declared.step.Leaf.{Leaf}
 use Rattle.certificate.specs.declared.branch.Branch.{Branch}
 use Rattle.certificate.specs.declared.node.Node.{Node}
 use Rattle.certificate.specs.declared.node.Node.TheVariants as node
-use Rattle.begun_search.specs.Gathering.{HasGoal}
-use Rattle.begun_search.proofs.Searching.{last_there, weaker_goal}
+use Rattle.search_workers.specs.Gathering.{HasGoal}
+use Rattle.search_workers.proofs.Searching.{last_there, weaker_goal}
 use Rattle.planner.specs.Searched.{HasLeafAt, IsLowest}
 
 pub none_lowest : (limit : ℕ) → IsLowest limit [] limit

@@ -1,7 +1,7 @@
 -- An answer with its own certificate is the same.
 use Rattle.std.proofs.Common.{◌≡◌, refl}
-use Rattle.begun_search.specs.outcome.Outcome.{Outcome}
-use Rattle.begun_search.specs.outcome.Outcome.TheVariants.{Optimal, Infeasible, Stopped}
+use Rattle.search_workers.specs.declared.outcome.Outcome.{Outcome}
+use Rattle.search_workers.specs.declared.outcome.Outcome.TheVariants.{Optimal, Infeasible, Stopped}
 use Rattle.planner.specs.Answers.{cert_of, certified_by}
 
 pub own_certificate : (outcome : Outcome) → outcome ≡ certified_by (cert_of outcome) outcome

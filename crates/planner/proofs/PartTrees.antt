@@ -10,27 +10,27 @@ use Rattle.certificate.specs.declared.node.Node.{Node}
 use Rattle.certificate.specs.declared.node.Node.TheVariants as node
 use Rattle.certificate.specs.Cert.{Cert}
 use Rattle.certificate.specs.Trees.{preorder}
-use Rattle.begun_search.specs.Account.{IsWholeTree}
-use Rattle.begun_search.specs.Begun.{nodes_of}
-use Rattle.begun_search.specs.Branches.{branches}
-use Rattle.begun_search.specs.Ends.{IsAnswerOf, IsFar}
-use Rattle.begun_search.specs.Gathering.{AreShallow, HasGoal, HaveGoals, IsGathered}
-use Rattle.begun_search.specs.Pieces.{AreRight}
-use Rattle.begun_search.specs.Proofs.{Proves}
-use Rattle.begun_search.specs.Searching.{aim_of, limit_of, IsFound, IsSearching, IsWorkedOut}
-use Rattle.begun_search.specs.Task.{Task, root_task}
-use Rattle.begun_search.specs.Trees.{IsTreeOf}
-use Rattle.begun_search.specs.aims.Aims.{Aims}
-use Rattle.begun_search.specs.search.Search.{Search}
-use Rattle.begun_search.specs.found.FoundPlan.{FoundPlan}
-use Rattle.begun_search.specs.outcome.Options.{Options}
-use Rattle.begun_search.specs.outcome.Outcome.{Outcome}
-use Rattle.begun_search.specs.outcome.Outcome.TheVariants.{Optimal, Infeasible, Stopped}
-use Rattle.begun_search.specs.outcome.Why.{Why}
-use Rattle.begun_search.specs.outcome.Why.TheVariants.{Budget, Memory, CalledOff, Gap, Part}
-use Rattle.begun_search.specs.piece.Piece.{Piece}
-use Rattle.begun_search.proofs.Proving.{gathered_proves}
-use Rattle.begun_search.proofs.Searching.{in_any_order}
+use Rattle.search_workers.specs.Account.{IsWholeTree}
+use Rattle.planner.specs.Begun.{nodes_of}
+use Rattle.dropped_decisions.specs.Branches.{branches}
+use Rattle.search_workers.specs.Ends.{IsAnswerOf, IsFar}
+use Rattle.search_workers.specs.Gathering.{AreShallow, HasGoal, HaveGoals, IsGathered}
+use Rattle.search_workers.specs.Pieces.{AreRight}
+use Rattle.dropped_decisions.specs.Proofs.{Proves}
+use Rattle.search_workers.specs.Searching.{aim_of, limit_of, IsFound, IsSearching, IsWorkedOut}
+use Rattle.search_workers.specs.Task.{Task, root_task}
+use Rattle.search_workers.specs.Trees.{IsTreeOf}
+use Rattle.search_workers.specs.declared.aims.Aims.{Aims}
+use Rattle.search_workers.specs.declared.search.Search.{Search}
+use Rattle.search_workers.specs.declared.found.FoundPlan.{FoundPlan}
+use Rattle.search_workers.specs.declared.outcome.Options.{Options}
+use Rattle.search_workers.specs.declared.outcome.Outcome.{Outcome}
+use Rattle.search_workers.specs.declared.outcome.Outcome.TheVariants.{Optimal, Infeasible, Stopped}
+use Rattle.search_workers.specs.declared.outcome.Why.{Why}
+use Rattle.search_workers.specs.declared.outcome.Why.TheVariants.{Budget, Memory, CalledOff, Gap, Part}
+use Rattle.search_workers.specs.piece.Piece.{Piece}
+use Rattle.search_workers.proofs.Proving.{gathered_proves}
+use Rattle.search_workers.proofs.Searching.{in_any_order}
 use Rattle.planner.specs.Answers.{from_low, in_answer, worked_goal}
 use Rattle.planner.specs.Closing.{AreClosed, AreEnds}
 use Rattle.planner.specs.PartAnswers.{IsPartCause, IsPartEnd, IsPartOutcome, IsPartReason, IsPartSearch, IsPartStopped, IsPartTree}

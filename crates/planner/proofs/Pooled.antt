@@ -6,15 +6,15 @@ use Rattle.std.proofs.lemmas.List.{map-append}
 use Rattle.std.proofs.lemmas.List.Elements.{All-append}
 use Rattle.std.proofs.lemmas.List.Sorted.{All-permutation, IsPermutation-trans, IsPermutation-append_left, IsPermutation-append_right, IsPermutation-append_comm}
 use Rattle.ttp_model.specs.Instance.{Instance}
-use Rattle.begun_search.specs.piece.Piece.{Piece}
-use Rattle.begun_search.specs.Task.{Task, IsTask}
-use Rattle.begun_search.specs.Tasks.{Turn, IsTurn, tasks_of, pieces_of, born, all_born}
-use Rattle.begun_search.specs.Gathering.{HasGoal}
-use Rattle.begun_search.specs.aims.Aims.{Aims}
-use Rattle.begun_search.specs.found.FoundPlan.{FoundPlan}
-use Rattle.begun_search.specs.Searching.{aim_of, limit_of, IsSearchingOf}
-use Rattle.begun_search.proofs.Goals.{goal_rises}
-use Rattle.begun_search.proofs.Searching.{back_all, first_is, interleave, then_is}
+use Rattle.search_workers.specs.piece.Piece.{Piece}
+use Rattle.search_workers.specs.Task.{Task, IsTask}
+use Rattle.search_workers.specs.Tasks.{Turn, IsTurn, tasks_of, pieces_of, born, all_born}
+use Rattle.search_workers.specs.Gathering.{HasGoal}
+use Rattle.search_workers.specs.declared.aims.Aims.{Aims}
+use Rattle.search_workers.specs.declared.found.FoundPlan.{FoundPlan}
+use Rattle.search_workers.specs.Searching.{aim_of, limit_of, IsSearchingOf}
+use Rattle.search_workers.proofs.Goals.{goal_rises}
+use Rattle.search_workers.proofs.Searching.{back_all, first_is, interleave, then_is}
 use Rattle.planner.proofs.Searched.{lower_goals}
 
 module _ (i : Instance) (aims : Aims) (roots front more : List Task) (made others : List Piece) (tasks : List Task) (old new : Option FoundPlan)

@@ -5,14 +5,14 @@ use Rattle.std.proofs.lemmas.List.{append-nil}
 use Rattle.std.proofs.lemmas.List.Sorted.{IsPermutation-trans}
 use mathlib.Core.Option.{some, some-injective, some-ne-none}
 use lib.ListN.{get_elem?}
-use Rattle.begun_search.specs.Task.{Task}
-use Rattle.begun_search.specs.hand.Hand.{Hand}
-use Rattle.begun_search.specs.Door.{DequeId}
-use Rattle.begun_search.specs.Hand.{pushed, taken, IsSameHand, IsHandOf, IsPool, ChangesAt, all_pushed, all_taken}
-use Rattle.begun_search.proofs.Orders.{more_in_one, same_in_all}
-use Rattle.begun_search.proofs.Pools.{each_change}
+use Rattle.search_workers.specs.Task.{Task}
+use Rattle.search_workers.specs.hand.Hand.{Hand}
+use Rattle.search_workers.specs.Door.{DequeId}
+use Rattle.search_workers.specs.Hand.{pushed, taken, IsSameHand, IsHandOf, IsPool, ChangesAt, all_pushed, all_taken}
+use Rattle.search_workers.proofs.Orders.{more_in_one, same_in_all}
+use Rattle.search_workers.proofs.Pools.{each_change}
 use Rattle.planner.specs.Crew.{AreSameHands, IsGiven}
-use Rattle.begun_search.proofs.Searching.{first_is, then_is}
+use Rattle.search_workers.proofs.Searching.{first_is, then_is}
 
 module _ {J : Type 0} where
   hand_of_still : (ids : List DequeId) (place : ℕ) (g h : Hand J) → IsSameHand g h → IsHandOf ids place g → IsHandOf ids place h

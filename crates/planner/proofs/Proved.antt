@@ -5,12 +5,12 @@ use Rattle.ttp_model.specs.Rules.{IsInstance}
 use Rattle.ttp_model.specs.Answers.{IsBestPlan}
 use Rattle.ttp_model.specs.Delays.{IsLeastDelay, IsLowerBound}
 use Rattle.certificate.specs.declared.node.Node.{Node}
-use Rattle.begun_search.specs.Searching.{IsFound}
-use Rattle.begun_search.specs.found.FoundPlan.{FoundPlan}
-use Rattle.begun_search.specs.outcome.Options.{Options}
-use Rattle.begun_search.specs.outcome.Outcome.{Outcome}
-use Rattle.begun_search.specs.outcome.Outcome.TheVariants.{Optimal, Infeasible, Stopped}
-use Rattle.begun_search.proofs.Bounds.{proved_bound, proved_least, proved_none}
+use Rattle.search_workers.specs.Searching.{IsFound}
+use Rattle.search_workers.specs.declared.found.FoundPlan.{FoundPlan}
+use Rattle.search_workers.specs.declared.outcome.Options.{Options}
+use Rattle.search_workers.specs.declared.outcome.Outcome.{Outcome}
+use Rattle.search_workers.specs.declared.outcome.Outcome.TheVariants.{Optimal, Infeasible, Stopped}
+use Rattle.dropped_decisions.proofs.Bounds.{proved_bound, proved_least, proved_none}
 use Rattle.planner.specs.Answers.{stated, IsBestAbove, IsOutcome, Shows}
 use Rattle.planner.specs.Onward.{IsProved}
 use Rattle.planner.specs.PartAnswers.{IsPartOutcome, IsPartStopped}

@@ -5,14 +5,14 @@ use Rattle.ttp_model.specs.Rules.{IsInstance}
 use Rattle.tt_choice.specs.Branches.{root_choice}
 use Rattle.certificate.specs.Cert.{Cert}
 use Rattle.certificate.specs.Trees.{preorder}
-use Rattle.begun_search.specs.Ends.{IsAnswerOf}
-use Rattle.begun_search.specs.Proofs.{Proves}
-use Rattle.begun_search.specs.Searching.{limit_of, IsFound}
-use Rattle.begun_search.specs.found.FoundPlan.{FoundPlan}
-use Rattle.begun_search.specs.outcome.Outcome.{Outcome}
-use Rattle.begun_search.specs.outcome.Outcome.TheVariants.{Optimal, Infeasible, Stopped}
-use Rattle.begun_search.specs.outcome.Why.{Why}
-use Rattle.begun_search.proofs.Bounds.{proved_bound}
+use Rattle.search_workers.specs.Ends.{IsAnswerOf}
+use Rattle.dropped_decisions.specs.Proofs.{Proves}
+use Rattle.search_workers.specs.Searching.{limit_of, IsFound}
+use Rattle.search_workers.specs.declared.found.FoundPlan.{FoundPlan}
+use Rattle.search_workers.specs.declared.outcome.Outcome.{Outcome}
+use Rattle.search_workers.specs.declared.outcome.Outcome.TheVariants.{Optimal, Infeasible, Stopped}
+use Rattle.search_workers.specs.declared.outcome.Why.{Why}
+use Rattle.dropped_decisions.proofs.Bounds.{proved_bound}
 use Rattle.side_by_side.specs.Bounds.{IsGreatestBound}
 use Rattle.side_by_side.specs.Joined.{certificate_at, IsJoinedTree}
 use Rattle.side_by_side.proofs.Proving.{joined_bound}

@@ -4,11 +4,11 @@ use Rattle.std.proofs.lemmas.List.Elements.{All-head, All-tail, All-cons, All-ni
 use Rattle.ttp_model.specs.Instance.{Instance}
 use Rattle.incumbent.specs.declared.word.Incumbent.{Incumbent}
 use Rattle.incumbent.specs.Watch.{IsWatchOf}
-use Rattle.begun_search.specs.aims.Aims.{Aims}
-use Rattle.begun_search.specs.report.Report.{Report}
-use Rattle.begun_search.specs.job.Job.{Job}
+use Rattle.search_workers.specs.declared.aims.Aims.{Aims}
+use Rattle.search_workers.specs.declared.report.Report.{Report}
+use Rattle.search_workers.specs.declared.job.Job.{Job}
 use Rattle.planner.specs.Crew.{AreReportsOf, IsJob, IsReportOfJob}
-use Rattle.begun_search.proofs.Searching.{front_of, last_there}
+use Rattle.search_workers.proofs.Searching.{front_of, last_there}
 
 module _ {J : Type 0} (i : Instance) (aims : Aims) where
   pub one_more_report : (jobs : List (Job J)) (rs : List (Report J)) (job : Job J) (r : Report J) → AreReportsOf i aims jobs rs → IsReportOfJob i aims job r → AreReportsOf i aims (jobs ++ job ∷ []) (rs ++ r ∷ [])

@@ -8,7 +8,7 @@ use Rattle.std.proofs.lemmas.List.{map-append}
 use Rattle.std.proofs.lemmas.List.Elements.{All-head, All-tail, All-map, All-append, All-weaker}
 use Rattle.std.proofs.lemmas.List.Sums.{sum_by-cons, sum_by-append}
 use Rattle.std.proofs.lemmas.List.Sorted.{IsPermutation-map, All-permutation, sum_by-IsPermutation}
-use Rattle.begun_search.specs.found.FoundPlan.{FoundPlan}
+use Rattle.search_workers.specs.declared.found.FoundPlan.{FoundPlan}
 use Rattle.ttp_model.specs.Instance.{Instance}
 use Rattle.ttp_model.specs.Chains.{IsPathBound}
 use Rattle.ttp_model.specs.Rules.{IsInstance}
@@ -17,22 +17,22 @@ use Rattle.certificate.specs.declared.node.Node.{Node}
 use Rattle.certificate.specs.declared.node.Node.TheVariants as node
 use Rattle.certificate.specs.Trees.{Trees, preorder}
 use Rattle.certificate.specs.Cert.{Cert}
-use Rattle.begun_search.specs.Proofs.{Proves}
-use Rattle.begun_search.specs.piece.Piece.{Piece}
-use Rattle.begun_search.specs.outcome.Options.{Options}
-use Rattle.begun_search.specs.outcome.Why.{Why}
-use Rattle.begun_search.specs.outcome.Why.TheVariants.{Budget, Memory, CalledOff, Gap, Part}
-use Rattle.begun_search.specs.Trees.{IsTreeOf, pieces_of}
-use Rattle.begun_search.specs.Gathering.{HasGoal, HaveGoals, IsGathered, IsLeafPiece}
-use Rattle.begun_search.specs.Branches.{is_branch, branches}
+use Rattle.dropped_decisions.specs.Proofs.{Proves}
+use Rattle.search_workers.specs.piece.Piece.{Piece}
+use Rattle.search_workers.specs.declared.outcome.Options.{Options}
+use Rattle.search_workers.specs.declared.outcome.Why.{Why}
+use Rattle.search_workers.specs.declared.outcome.Why.TheVariants.{Budget, Memory, CalledOff, Gap, Part}
+use Rattle.search_workers.specs.Trees.{IsTreeOf, pieces_of}
+use Rattle.search_workers.specs.Gathering.{HasGoal, HaveGoals, IsGathered, IsLeafPiece}
+use Rattle.dropped_decisions.specs.Branches.{is_branch, branches}
 use Rattle.planner.specs.Answers.{is_closed_at, worked_at, worked_goal, in_answer}
-use Rattle.begun_search.specs.Searching.{aim_of, limit_of, IsFound, IsWorkedOut}
+use Rattle.search_workers.specs.Searching.{aim_of, limit_of, IsFound, IsWorkedOut}
 use Rattle.planner.specs.Searched.{AreAims, IsClosedLeaf, IsEndTree, IsReason, IsSearched}
-use Rattle.begun_search.specs.aims.Aims.{Aims}
-use Rattle.begun_search.proofs.Goals.{goal_near, goal_past}
-use Rattle.begun_search.proofs.Searching.{aim_below, weaker_goal}
-use Rattle.begun_search.proofs.Existence.{tree_nodes}
-use Rattle.begun_search.proofs.Proving.{gathered_proves}
+use Rattle.search_workers.specs.declared.aims.Aims.{Aims}
+use Rattle.search_workers.proofs.Goals.{goal_near, goal_past}
+use Rattle.search_workers.proofs.Searching.{aim_below, weaker_goal}
+use Rattle.search_workers.proofs.Existence.{tree_nodes}
+use Rattle.search_workers.proofs.Proving.{gathered_proves}
 
 abbrev nodes_of : List Piece → List Node
 nodes_of pieces = map (λ (p : Piece). p.node) pieces

@@ -1,13 +1,13 @@
 -- What an answer shows, from what its certificate proves.
 use Rattle.std.proofs.Common.{ℕ, Option, None, Some, sym, subst, ◌∙◌}
-use Rattle.begun_search.specs.found.FoundPlan.{FoundPlan}
+use Rattle.search_workers.specs.declared.found.FoundPlan.{FoundPlan}
 use Rattle.ttp_model.specs.Instance.{Instance}
 use Rattle.ttp_model.specs.Rules.{IsInstance}
 use Rattle.ttp_model.specs.Delays.{IsLeastDelay, IsLowerBound}
-use Rattle.begun_search.proofs.Bounds.{proved_bound, proved_none, proved_least}
-use Rattle.begun_search.specs.outcome.Options.{Options}
-use Rattle.begun_search.specs.outcome.Outcome.{Outcome}
-use Rattle.begun_search.specs.outcome.Outcome.TheVariants.{Optimal, Infeasible, Stopped}
+use Rattle.dropped_decisions.proofs.Bounds.{proved_bound, proved_none, proved_least}
+use Rattle.search_workers.specs.declared.outcome.Options.{Options}
+use Rattle.search_workers.specs.declared.outcome.Outcome.{Outcome}
+use Rattle.search_workers.specs.declared.outcome.Outcome.TheVariants.{Optimal, Infeasible, Stopped}
 use Rattle.planner.specs.Answers.{IsOutcome, IsBestAbove, Shows, stated}
 use Rattle.ttp_model.specs.Answers.{IsBestPlan}
 

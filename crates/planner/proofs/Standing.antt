@@ -9,17 +9,17 @@ use Rattle.ttp_model.specs.Instance.{Instance}
 use Rattle.tt_choice.specs.Choice.{Choice}
 use Rattle.certificate.specs.declared.limits.TheConstants.{MOST_BRANCHES_ABOVE}
 use Rattle.certificate.specs.Trees.{children}
-use Rattle.begun_search.specs.piece.Piece.{Piece}
-use Rattle.begun_search.specs.Name.{Name, root_name, child_name}
-use Rattle.begun_search.specs.Task.{Task, choice_of, root_task}
-use Rattle.begun_search.specs.Pieces.{names_of, names_below, all_below, choice_below, IsRight, StandsAt, at_root, at_child, AreRight}
-use Rattle.begun_search.specs.Account.{IsWholeTree}
-use Rattle.begun_search.proofs.OneChoice.{stands_alone}
-use Rattle.begun_search.proofs.Children.{choice_of_child}
-use Rattle.begun_search.specs.Tasks.{Turn, IsTurn, tasks_of, pieces_of, born, child_task, all_born}
-use Rattle.begun_search.specs.Gathering.{AreShallow}
-use Rattle.begun_search.specs.Searching.{task_names}
-use Rattle.begun_search.proofs.Has.{Has, has_map, has_from_map, has_from_flat_map, in_range, has_from_contains, contains_from_has}
+use Rattle.search_workers.specs.piece.Piece.{Piece}
+use Rattle.search_workers.specs.Name.{Name, root_name, child_name}
+use Rattle.search_workers.specs.Task.{Task, choice_of, root_task}
+use Rattle.search_workers.specs.Pieces.{names_of, names_below, all_below, choice_below, IsRight, StandsAt, at_root, at_child, AreRight}
+use Rattle.search_workers.specs.Account.{IsWholeTree}
+use Rattle.search_workers.proofs.OneChoice.{stands_alone}
+use Rattle.search_workers.proofs.Children.{choice_of_child}
+use Rattle.search_workers.specs.Tasks.{Turn, IsTurn, tasks_of, pieces_of, born, child_task, all_born}
+use Rattle.search_workers.specs.Gathering.{AreShallow}
+use Rattle.search_workers.specs.Searching.{task_names}
+use Rattle.search_workers.proofs.Has.{Has, has_map, has_from_map, has_from_flat_map, in_range, has_from_contains, contains_from_has}
 
 abbrev name_of : Task → Name
 name_of t = t.name

@@ -4,13 +4,13 @@ use Rattle.ttp_model.specs.declared.plan.Plan.{Plan}
 use Rattle.ttp_model.specs.Instance.{Instance}
 use Rattle.ttp_model.specs.Delays.{delay}
 use Rattle.certificate.specs.Cert.{Cert}
-use Rattle.begun_search.specs.found.FoundPlan.{FoundPlan}
-use Rattle.begun_search.specs.outcome.Outcome.{Outcome}
-use Rattle.begun_search.specs.outcome.Outcome.TheVariants.{Optimal, Infeasible, Stopped}
-use Rattle.begun_search.specs.outcome.Why.{Why}
-use Rattle.begun_search.specs.outcome.Why.TheVariants.{CalledOff, Gap}
-use Rattle.begun_search.specs.Searching.{limit_of}
-use Rattle.begun_search.specs.Ends.{IsAnswerOf, IsCauseTold}
+use Rattle.search_workers.specs.declared.found.FoundPlan.{FoundPlan}
+use Rattle.search_workers.specs.declared.outcome.Outcome.{Outcome}
+use Rattle.search_workers.specs.declared.outcome.Outcome.TheVariants.{Optimal, Infeasible, Stopped}
+use Rattle.search_workers.specs.declared.outcome.Why.{Why}
+use Rattle.search_workers.specs.declared.outcome.Why.TheVariants.{CalledOff, Gap}
+use Rattle.search_workers.specs.Searching.{limit_of}
+use Rattle.search_workers.specs.Ends.{IsAnswerOf, IsCauseTold}
 use Rattle.planner.specs.Answers.{best_of, certified_by, IsCalledOff}
 
 -- an answer has the best plan that the search knew

@@ -5,11 +5,11 @@ use Rattle.std.proofs.lemmas.List.{length-map}
 use Rattle.std.proofs.lemmas.List.Sums.{length-filter}
 use Rattle.ttp_model.specs.Instance.{Instance}
 use Rattle.certificate.specs.declared.node.Node.{Node}
-use Rattle.begun_search.specs.Begun.{nodes_of, outline, stays}
-use Rattle.begun_search.specs.outcome.Options.{Options}
-use Rattle.begun_search.specs.outcome.Outcome.{Outcome}
-use Rattle.begun_search.specs.declared.parts.Portion.{Portion}
-use Rattle.begun_search.specs.piece.Piece.{Piece}
+use Rattle.planner.specs.Begun.{nodes_of, outline, stays}
+use Rattle.search_workers.specs.declared.outcome.Options.{Options}
+use Rattle.search_workers.specs.declared.outcome.Outcome.{Outcome}
+use Rattle.planner.specs.declared.parts.Portion.{Portion}
+use Rattle.search_workers.specs.piece.Piece.{Piece}
 use Rattle.planner.specs.Onward.{IsOwn}
 
 pub as_many : (aim : ℕ) (pieces : List Piece) (nodes : List Node) → map outline (nodes_of pieces) ≡ map outline (filter (stays aim) nodes)

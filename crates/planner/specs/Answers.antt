@@ -10,18 +10,18 @@ use Rattle.certificate.specs.declared.node.Node.TheVariants as node
 use Rattle.certificate.specs.Versions.{answer_version}
 use Rattle.certificate.specs.Trees.{Trees, preorder}
 use Rattle.certificate.specs.Cert.{Cert}
-use Rattle.begun_search.specs.Proofs.{Proves}
-use Rattle.begun_search.specs.Branches.{branches}
-use Rattle.begun_search.specs.Best.{IsPlanFound}
-use Rattle.begun_search.specs.found.FoundPlan.{FoundPlan}
-use Rattle.begun_search.specs.outcome.Options.{Options}
-use Rattle.begun_search.specs.outcome.Outcome.{Outcome}
-use Rattle.begun_search.specs.outcome.Outcome.TheVariants.{Optimal, Infeasible, Stopped}
-use Rattle.begun_search.specs.outcome.Why.{Why}
-use Rattle.begun_search.specs.outcome.Why.TheVariants.{Budget, Memory, CalledOff, Gap, Part}
-use Rattle.begun_search.specs.Searching.{limit_of}
-use Rattle.begun_search.specs.Ends.{IsFar, IsNear}
-use Rattle.begun_search.specs.Gathering.{HasGoal}
+use Rattle.dropped_decisions.specs.Proofs.{Proves}
+use Rattle.dropped_decisions.specs.Branches.{branches}
+use Rattle.search_workers.specs.Best.{IsPlanFound}
+use Rattle.search_workers.specs.declared.found.FoundPlan.{FoundPlan}
+use Rattle.search_workers.specs.declared.outcome.Options.{Options}
+use Rattle.search_workers.specs.declared.outcome.Outcome.{Outcome}
+use Rattle.search_workers.specs.declared.outcome.Outcome.TheVariants.{Optimal, Infeasible, Stopped}
+use Rattle.search_workers.specs.declared.outcome.Why.{Why}
+use Rattle.search_workers.specs.declared.outcome.Why.TheVariants.{Budget, Memory, CalledOff, Gap, Part}
+use Rattle.search_workers.specs.Searching.{limit_of}
+use Rattle.search_workers.specs.Ends.{IsFar, IsNear}
+use Rattle.search_workers.specs.Gathering.{HasGoal}
 
 -- a leaf at the limit or past it
 abbrev pub is_closed_at : ℕ → Node → Bool

@@ -4,13 +4,13 @@ use Rattle.ttp_model.specs.declared.step.Leaf.{Leaf}
 use Rattle.ttp_model.specs.Instance.{Instance}
 use Rattle.certificate.specs.declared.node.Node.TheVariants as node
 use Rattle.certificate.specs.Cert.{Cert}
-use Rattle.begun_search.specs.piece.Piece.{Piece}
-use Rattle.begun_search.specs.Leaves.{ClosesLeaf}
-use Rattle.begun_search.specs.Task.{Task, choice_of}
-use Rattle.begun_search.specs.Pieces.{names_of}
-use Rattle.begun_search.specs.Work.{IsLeftClosed}
-use Rattle.begun_search.specs.Gathering.{HaveGoals, IsGathered}
-use Rattle.begun_search.specs.Searching.{task_names}
+use Rattle.search_workers.specs.piece.Piece.{Piece}
+use Rattle.tt_infer.specs.Leaves.{ClosesLeaf}
+use Rattle.search_workers.specs.Task.{Task, choice_of}
+use Rattle.search_workers.specs.Pieces.{names_of}
+use Rattle.search_workers.specs.Work.{IsLeftClosed}
+use Rattle.search_workers.specs.Gathering.{HaveGoals, IsGathered}
+use Rattle.search_workers.specs.Searching.{task_names}
 use Rattle.planner.specs.Searched.{ReachesGoal}
 
 -- a piece closes one of these tasks

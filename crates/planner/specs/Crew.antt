@@ -1,25 +1,25 @@
 -- What workers begin with, and what they come to together. Only private contracts ask for it.
 use Rattle.std.specs.Prelude.{◌≡◌, ◌⊎◌, ℕ, ◌+◌, ◌-◌, ◌/◌, ◌≤◌, List, [], ◌∷◌, ◌++◌, map, length, sum_by, All, Option, None, Some, IsPermutation}
 use Rattle.ttp_model.specs.Instance.{Instance}
-use Rattle.begun_search.specs.Task.{Task, IsTask}
+use Rattle.search_workers.specs.Task.{Task, IsTask}
 use Rattle.incumbent.specs.declared.word.Incumbent.{Incumbent}
 use Rattle.incumbent.specs.declared.word.Watch.{Watch}
 use Rattle.incumbent.specs.Watch.{first_value, offers, out_count, IsOpening, IsOther, IsSameWatch}
-use Rattle.begun_search.specs.hand.Hand.{Hand}
-use Rattle.begun_search.specs.Hand.{IsPool, IsSameHand, pushed, taken, all_pushed, all_taken}
-use Rattle.begun_search.specs.aims.Aims.{Aims}
-use Rattle.begun_search.specs.found.FoundPlan.{FoundPlan}
-use Rattle.begun_search.specs.report.Report.{Report}
-use Rattle.begun_search.specs.Tasks.{Turn, IsTurn, tasks_of, pieces_of, all_born}
-use Rattle.begun_search.specs.Goals.{goals_of, AreGoals, IsReached}
-use Rattle.begun_search.specs.Best.{OffersBest}
-use Rattle.begun_search.specs.report.Rest.{Rest}
-use Rattle.begun_search.specs.Report.{HasAccount, held, unpushed}
-use Rattle.begun_search.specs.job.Job.{Job}
+use Rattle.search_workers.specs.hand.Hand.{Hand}
+use Rattle.search_workers.specs.Hand.{IsPool, IsSameHand, pushed, taken, all_pushed, all_taken}
+use Rattle.search_workers.specs.declared.aims.Aims.{Aims}
+use Rattle.search_workers.specs.declared.found.FoundPlan.{FoundPlan}
+use Rattle.search_workers.specs.declared.report.Report.{Report}
+use Rattle.search_workers.specs.Tasks.{Turn, IsTurn, tasks_of, pieces_of, all_born}
+use Rattle.search_workers.specs.Goals.{goals_of, AreGoals, IsReached}
+use Rattle.search_workers.specs.Best.{OffersBest}
+use Rattle.search_workers.specs.declared.report.Rest.{Rest}
+use Rattle.search_workers.specs.Report.{HasAccount, held, unpushed}
+use Rattle.search_workers.specs.declared.job.Job.{Job}
 use Rattle.planner.specs.declared.crew.Crew.{Crew}
-use Rattle.begun_search.specs.Searching.{limit_of, IsFound}
-use Rattle.begun_search.specs.manner.Manner.{Manner}
-use Rattle.begun_search.specs.manner.Manner.TheVariants.{Plain, Sparing}
+use Rattle.search_workers.specs.Searching.{limit_of, IsFound}
+use Rattle.search_workers.specs.manner.Manner.{Manner}
+use Rattle.search_workers.specs.manner.Manner.TheVariants.{Plain, Sparing}
 
 -- how much of a budget the workers have: all of it in a plain search, and else all but the last quarter
 abbrev pub workers_part : Manner → ℕ → ℕ

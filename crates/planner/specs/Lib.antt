@@ -1,3 +1,7 @@
+pub mod Sharp
+pub mod Begun
+pub mod Replay
+pub mod Parts
 pub mod Answers
 pub mod Searched
 pub mod Closing
@@ -5,10 +9,8 @@ pub mod Crew
 pub mod Held
 pub mod PartAnswers
 pub mod Onward
-pub use Rattle.begun_search.specs.Begun
-pub use Rattle.begun_search.specs.Proofs
-pub use Rattle.begun_search.specs.declared.parts
-pub use Rattle.begun_search.specs.found
-pub use Rattle.begun_search.specs.outcome
-pub use Rattle.begun_search.specs.Ends
-pub use Rattle.begun_search.specs.Searching
+pub use Rattle.dropped_decisions.specs.Proofs
+pub use Rattle.search_workers.specs.Ends
+pub use Rattle.search_workers.specs.Searching
+pub use Rattle.search_workers.specs.declared.found
+pub use Rattle.search_workers.specs.declared.outcome

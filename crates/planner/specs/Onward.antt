@@ -7,20 +7,20 @@ use Rattle.certificate.specs.declared.node.Node.{Node}
 use Rattle.certificate.specs.Cert.{Cert}
 use Rattle.certificate.specs.Trees.{preorder}
 use Rattle.certificate.specs.Versions.{answer_version}
-use Rattle.begun_search.specs.Begun.{is_open, stays, IsTooDeep}
-use Rattle.begun_search.specs.Parts.{others_of, IsPortion}
-use Rattle.begun_search.specs.Searching.{aim_of, limit_of, IsFound}
-use Rattle.begun_search.specs.aims.Aims.{Aims}
-use Rattle.begun_search.specs.declared.fault.BeginFault.{BeginFault}
-use Rattle.begun_search.specs.declared.fault.BeginFault.TheVariants as begin
-use Rattle.begun_search.specs.declared.parts.Portion.{Portion}
-use Rattle.begun_search.specs.found.FoundPlan.{FoundPlan}
-use Rattle.begun_search.specs.outcome.Options.{Options}
-use Rattle.begun_search.specs.outcome.Outcome.{Outcome}
-use Rattle.begun_search.specs.outcome.Outcome.TheVariants.{Optimal, Infeasible, Stopped}
-use Rattle.begun_search.specs.outcome.SolveFault.TheVariants.{Memory}
-use Rattle.begun_search.specs.Proofs.{Proves}
-use Rattle.begun_search.specs.outcome.Why.{Why}
+use Rattle.planner.specs.Begun.{is_open, stays, IsTooDeep}
+use Rattle.planner.specs.Parts.{others_of, IsPortion}
+use Rattle.search_workers.specs.Searching.{aim_of, limit_of, IsFound}
+use Rattle.search_workers.specs.declared.aims.Aims.{Aims}
+use Rattle.planner.specs.declared.fault.BeginFault.{BeginFault}
+use Rattle.planner.specs.declared.fault.BeginFault.TheVariants as begin
+use Rattle.planner.specs.declared.parts.Portion.{Portion}
+use Rattle.search_workers.specs.declared.found.FoundPlan.{FoundPlan}
+use Rattle.search_workers.specs.declared.outcome.Options.{Options}
+use Rattle.search_workers.specs.declared.outcome.Outcome.{Outcome}
+use Rattle.search_workers.specs.declared.outcome.Outcome.TheVariants.{Optimal, Infeasible, Stopped}
+use Rattle.search_workers.specs.declared.outcome.SolveFault.TheVariants.{Memory}
+use Rattle.dropped_decisions.specs.Proofs.{Proves}
+use Rattle.search_workers.specs.declared.outcome.Why.{Why}
 use Rattle.side_by_side.specs.Joined.{IsJoinedTree}
 use Rattle.planner.specs.Answers.{best_of, cert_of, IsOutcome}
 use Rattle.planner.specs.PartAnswers.{IsPartOutcome}

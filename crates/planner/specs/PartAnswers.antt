@@ -5,21 +5,21 @@ use Rattle.certificate.specs.declared.node.Node.{Node}
 use Rattle.certificate.specs.Trees.{preorder}
 use Rattle.certificate.specs.Cert.{Cert}
 use Rattle.certificate.specs.Versions.{answer_version}
-use Rattle.begun_search.specs.Begun.{AreLeavesOf}
-use Rattle.begun_search.specs.Branches.{branches}
-use Rattle.begun_search.specs.Ends.{IsFar}
-use Rattle.begun_search.specs.Proofs.{Proves}
-use Rattle.begun_search.specs.Searching.{limit_of, IsSearching, IsWorkedOut, SearchGoesOn}
-use Rattle.begun_search.specs.Task.{Task}
-use Rattle.begun_search.specs.aims.Aims.{Aims}
-use Rattle.begun_search.specs.search.Search.{Search}
-use Rattle.begun_search.specs.found.FoundPlan.{FoundPlan}
-use Rattle.begun_search.specs.outcome.Options.{Options}
-use Rattle.begun_search.specs.outcome.Outcome.{Outcome}
-use Rattle.begun_search.specs.outcome.Outcome.TheVariants.{Optimal, Infeasible, Stopped}
-use Rattle.begun_search.specs.outcome.Why.{Why}
-use Rattle.begun_search.specs.outcome.Why.TheVariants.{Budget, Memory, CalledOff, Gap, Part}
-use Rattle.begun_search.specs.piece.Piece.{Piece}
+use Rattle.planner.specs.Begun.{AreLeavesOf}
+use Rattle.dropped_decisions.specs.Branches.{branches}
+use Rattle.search_workers.specs.Ends.{IsFar}
+use Rattle.dropped_decisions.specs.Proofs.{Proves}
+use Rattle.search_workers.specs.Searching.{limit_of, IsSearching, IsWorkedOut, SearchGoesOn}
+use Rattle.search_workers.specs.Task.{Task}
+use Rattle.search_workers.specs.declared.aims.Aims.{Aims}
+use Rattle.search_workers.specs.declared.search.Search.{Search}
+use Rattle.search_workers.specs.declared.found.FoundPlan.{FoundPlan}
+use Rattle.search_workers.specs.declared.outcome.Options.{Options}
+use Rattle.search_workers.specs.declared.outcome.Outcome.{Outcome}
+use Rattle.search_workers.specs.declared.outcome.Outcome.TheVariants.{Optimal, Infeasible, Stopped}
+use Rattle.search_workers.specs.declared.outcome.Why.{Why}
+use Rattle.search_workers.specs.declared.outcome.Why.TheVariants.{Budget, Memory, CalledOff, Gap, Part}
+use Rattle.search_workers.specs.piece.Piece.{Piece}
 use Rattle.planner.specs.Answers.{cert_of, IsBestAbove, IsCause, IsLeastGoal, Says}
 use Rattle.planner.specs.Searched.{IsReason}
 

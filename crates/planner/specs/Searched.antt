@@ -8,21 +8,21 @@ use Rattle.certificate.specs.declared.node.Node.TheVariants as node
 use Rattle.certificate.specs.Trees.{preorder}
 use Rattle.certificate.specs.Cert.{Cert}
 use Rattle.certificate.specs.Versions.{answer_version}
-use Rattle.begun_search.specs.Proofs.{Proves}
-use Rattle.begun_search.specs.Branches.{branches}
-use Rattle.begun_search.specs.piece.Piece.{Piece}
-use Rattle.begun_search.specs.Pieces.{AreRight}
-use Rattle.begun_search.specs.Account.{IsWholeTree}
-use Rattle.begun_search.specs.found.FoundPlan.{FoundPlan}
-use Rattle.begun_search.specs.outcome.Options.{Options}
-use Rattle.begun_search.specs.outcome.Why.{Why}
-use Rattle.begun_search.specs.outcome.Outcome.{Outcome}
-use Rattle.begun_search.specs.outcome.Why.TheVariants.{Budget, Memory, CalledOff, Gap, Part}
-use Rattle.begun_search.specs.aims.Aims.{Aims}
-use Rattle.begun_search.specs.Goals.{goal_of}
-use Rattle.begun_search.specs.Searching.{aim_of, limit_of, IsFound, IsWorkedOut}
-use Rattle.begun_search.specs.Gathering.{HasGoal, HaveGoals}
-use Rattle.begun_search.specs.Ends.{IsAnswerOf, IsCauseTold}
+use Rattle.dropped_decisions.specs.Proofs.{Proves}
+use Rattle.dropped_decisions.specs.Branches.{branches}
+use Rattle.search_workers.specs.piece.Piece.{Piece}
+use Rattle.search_workers.specs.Pieces.{AreRight}
+use Rattle.search_workers.specs.Account.{IsWholeTree}
+use Rattle.search_workers.specs.declared.found.FoundPlan.{FoundPlan}
+use Rattle.search_workers.specs.declared.outcome.Options.{Options}
+use Rattle.search_workers.specs.declared.outcome.Why.{Why}
+use Rattle.search_workers.specs.declared.outcome.Outcome.{Outcome}
+use Rattle.search_workers.specs.declared.outcome.Why.TheVariants.{Budget, Memory, CalledOff, Gap, Part}
+use Rattle.search_workers.specs.declared.aims.Aims.{Aims}
+use Rattle.search_workers.specs.Goals.{goal_of}
+use Rattle.search_workers.specs.Searching.{aim_of, limit_of, IsFound, IsWorkedOut}
+use Rattle.search_workers.specs.Gathering.{HasGoal, HaveGoals}
+use Rattle.search_workers.specs.Ends.{IsAnswerOf, IsCauseTold}
 use Rattle.planner.specs.Answers.{from_low, worked_at, worked_goal}
 
 -- a goal at which propagation closes the whole tree: at least the path bound, within one tick past the horizon

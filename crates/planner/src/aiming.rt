@@ -4,7 +4,7 @@ ghost use Rattle.std.specs.Prelude.{◌≡◌, IfOk};
 ghost use Rattle.planner.specs.Searched.{AreAims, IsFloor};
 
 use crate::closing::{close, lowered};
-use begun_search::{Agenda, Aims, Course, Task, usual_manner};
+use search_workers::{Agenda, Aims, Course, Task, usual_manner};
 use std::alloc::Global;
 use ttp_model::{Instance, MemoryFault};
 

@@ -3,12 +3,12 @@
 ghost use Rattle.std.specs.Prelude.{◌≡◌, IfOk, All, min};
 ghost use Rattle.ttp_model.specs.declared.step.Leaf.{Leaf};
 ghost use Rattle.certificate.specs.declared.node.Node.TheVariants as node;
-ghost use Rattle.begun_search.specs.Task.{IsTask};
-ghost use Rattle.begun_search.specs.Work.{IsLeftClosed};
+ghost use Rattle.search_workers.specs.Task.{IsTask};
+ghost use Rattle.search_workers.specs.Work.{IsLeftClosed};
 ghost use Rattle.planner.specs.Closing.{AreClosed};
 
-use begun_search::{Agenda, Piece, Task, close_left_by};
 use certificate::Node;
+use search_workers::{Agenda, Piece, Task, close_left_by};
 use std::alloc::Global;
 use ttp_model::{Instance, MemoryFault, Step};
 

@@ -2,21 +2,21 @@
 
 ghost use Rattle.std.specs.Prelude.{◌≡◌, ◌≤◌, ◌+◌, [], ◌∷◌, ◌++◌, IfOk, OnOk, IsPermutation, List, length, vec_len, All};
 ghost use Rattle.ttp_model.specs.Rules.{IsInstance};
-ghost use Rattle.begun_search.specs.Task.{root_task, Task, IsTask};
+ghost use Rattle.search_workers.specs.Task.{root_task, Task, IsTask};
 ghost use Rattle.incumbent.specs.Watch.{offers, out_count, IsOpening};
-ghost use Rattle.begun_search.specs.Hand.{all_pushed, all_taken, IsPool};
-ghost use Rattle.begun_search.specs.Searching.{limit_of, IsFound, IsSearchingOf, IsSomeSearch, SearchGoesOn};
-ghost use Rattle.begun_search.specs.aims.Aims.{Aims};
+ghost use Rattle.search_workers.specs.Hand.{all_pushed, all_taken, IsPool};
+ghost use Rattle.search_workers.specs.Searching.{limit_of, IsFound, IsSearchingOf, IsSomeSearch, SearchGoesOn};
+ghost use Rattle.search_workers.specs.declared.aims.Aims.{Aims};
 ghost use Rattle.planner.specs.Crew.{budget_of, hands_of, told, AreDealt, AreReportsOf, HasLeft, HaveEnded, IsGiven, IsJob, IsNobody};
 
 use crate::crew::{Crew, run_all};
 use crate::joining::join;
 use crate::reserve::Reserve;
-use begun_search::{
+use incumbent::{Incumbent, Watch};
+use search_workers::{
     Course, FoundPlan, Gate, Hand, Job, Options, Piece, Report, Search, Searched, Site, SolveFault,
     Task, drain, pool,
 };
-use incumbent::{Incumbent, Watch};
 use std::alloc::Global;
 use std::marker::{Send, Sync};
 use std::sync::Wait;

@@ -4,21 +4,21 @@ ghost use Rattle.std.specs.Prelude.{◌≡◌, ◌≤◌, ◌+◌, ℕ, List, []
 ghost use Rattle.ttp_model.specs.Instance.{Instance};
 ghost use Rattle.ttp_model.specs.Rules.{IsInstance};
 ghost use Rattle.incumbent.specs.Watch.{IsOpening, IsWatchOf};
-ghost use Rattle.begun_search.specs.hand.Hand.{Hand};
-ghost use Rattle.begun_search.specs.aims.Aims.{Aims};
-ghost use Rattle.begun_search.specs.job.Job.{Job};
-ghost use Rattle.begun_search.specs.outcome.SolveFault.TheVariants as fault;
-ghost use Rattle.begun_search.specs.Searching.{IsBetter, IsFound};
+ghost use Rattle.search_workers.specs.hand.Hand.{Hand};
+ghost use Rattle.search_workers.specs.declared.aims.Aims.{Aims};
+ghost use Rattle.search_workers.specs.declared.job.Job.{Job};
+ghost use Rattle.search_workers.specs.declared.outcome.SolveFault.TheVariants as fault;
+ghost use Rattle.search_workers.specs.Searching.{IsBetter, IsFound};
 ghost use Rattle.planner.specs.Crew.{IsNoLater, IsReportOfJob, AreReportsOf, IsJob, hands_of, budget_of, tasks_in, Gathers};
 
 use crate::joining::{keep_roomier, take_in};
 use crate::muster::Muster;
-use begun_search::{
+use certificate::Node;
+use incumbent::{Incumbent, Watch};
+use search_workers::{
     Aims, Course, FoundPlan, Gate, Hand, Job, Piece, Report, Rest, Searched, Site, SolveFault,
     Task, better, run_worker_in,
 };
-use certificate::Node;
-use incumbent::{Incumbent, Watch};
 use std::alloc::Global;
 use std::marker::{Send, Sync};
 use std::snapshot::Snapshot;

@@ -1,13 +1,13 @@
 //! What does the tree of a search at its end say?
 
 ghost use Rattle.std.specs.Prelude.{◌≡◌};
-ghost use Rattle.begun_search.specs.Searching.{IsFound};
-ghost use Rattle.begun_search.specs.outcome.Why.TheVariants as causes;
+ghost use Rattle.search_workers.specs.Searching.{IsFound};
+ghost use Rattle.search_workers.specs.declared.outcome.Why.TheVariants as causes;
 ghost use Rattle.planner.specs.Answers.{best_of, IsCalledOff};
 ghost use Rattle.planner.specs.Searched.{IsEndAnswer, IsLowest};
 
-use begun_search::{FoundPlan, Outcome, Why, answer, cause, limit};
 use certificate::{Cert, Node};
+use search_workers::{FoundPlan, Outcome, Why, answer, cause, limit};
 use ttp_model::Instance;
 
 /// The lesser of a limit and the least goal of the leaves among nodes, in ticks.

@@ -3,8 +3,8 @@
 ghost use Rattle.std.specs.Prelude.{◌≡◌, ◌+◌, ◌++◌, OnOk, length};
 ghost use Rattle.planner.specs.Crew.{AreTogether};
 
-use begun_search::Piece;
 use certificate::Node;
+use search_workers::Piece;
 use std::mem;
 use ttp_model::MemoryFault;
 

@@ -5,18 +5,18 @@ ghost use Rattle.ttp_model.specs.Instance.{Instance};
 ghost use Rattle.ttp_model.specs.Rules.{IsInstance};
 ghost use Rattle.certificate.specs.Cert.{Cert};
 ghost use Rattle.certificate.specs.Versions.{Allows};
-ghost use Rattle.begun_search.specs.piece.Piece.{Piece};
-ghost use Rattle.begun_search.specs.Gathering.{IsGathered};
-ghost use Rattle.begun_search.specs.found.FoundPlan.{FoundPlan};
-ghost use Rattle.begun_search.specs.outcome.Options.{Options};
-ghost use Rattle.begun_search.specs.outcome.Outcome.{Outcome};
-ghost use Rattle.begun_search.specs.outcome.Why.{Why};
-ghost use Rattle.begun_search.specs.aims.Aims.{Aims};
+ghost use Rattle.search_workers.specs.piece.Piece.{Piece};
+ghost use Rattle.search_workers.specs.Gathering.{IsGathered};
+ghost use Rattle.search_workers.specs.declared.found.FoundPlan.{FoundPlan};
+ghost use Rattle.search_workers.specs.declared.outcome.Options.{Options};
+ghost use Rattle.search_workers.specs.declared.outcome.Outcome.{Outcome};
+ghost use Rattle.search_workers.specs.declared.outcome.Why.{Why};
+ghost use Rattle.search_workers.specs.declared.aims.Aims.{Aims};
 ghost use Rattle.certificate.specs.Trees.{preorder};
 ghost use Rattle.planner.specs.Answers.{cert_of, from_low, in_answer, IsOutcome, Shows};
 ghost use Rattle.planner.specs.Searched.{AreAims, IsEndTree, IsLowest, IsSearched};
-ghost use Rattle.begun_search.specs.Ends.{IsAnswerOf, IsCauseTold};
-ghost use Rattle.begun_search.specs.Searching.{limit_of, IsFound};
+ghost use Rattle.search_workers.specs.Ends.{IsAnswerOf, IsCauseTold};
+ghost use Rattle.search_workers.specs.Searching.{limit_of, IsFound};
 
 /// What a search leaves at its end, gathered, and in the version of the instance's answers, is a tree that makes its answer: the best plan where the least
 /// goal of its leaves is its delay, no plan where that is past the horizon, and else that it was stopped, by the gap where the plan is within it.

@@ -2,16 +2,15 @@
 
 ghost use Rattle.std.specs.Prelude.{◌≡◌, ℕ, ◌≤◌, IfSome, length};
 ghost use Rattle.certificate.specs.Cert.{Cert};
-ghost use Rattle.begun_search.specs.outcome.Options.{Options};
-ghost use Rattle.begun_search.specs.outcome.Why.TheVariants.{Gap};
+ghost use Rattle.search_workers.specs.declared.outcome.Options.{Options};
+ghost use Rattle.search_workers.specs.declared.outcome.Why.TheVariants.{Gap};
 ghost use Rattle.planner.specs.Answers.{certified_by, IsOutcome};
 ghost use Rattle.planner.specs.Searched.{AreAims, IsEndTree};
-ghost use Rattle.begun_search.specs.Searching.{IsFound};
+ghost use Rattle.search_workers.specs.Searching.{IsFound};
 
-use begun_search::{
-    Course, Manner, Options, Outcome, Search, Standing, aim, proof_of, without_unused,
-};
 use certificate::{Cert, Version};
+use dropped_decisions::{Standing, proof_of, without_unused};
+use search_workers::{Course, Manner, Options, Outcome, Search, aim};
 use std::alloc::Global;
 use ttp_model::{Instance, MemoryFault};
 

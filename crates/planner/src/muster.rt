@@ -1,6 +1,6 @@
 //! When do workers end who can't all begin?
 
-use begun_search::{FoundPlan, Gate, Name};
+use search_workers::{FoundPlan, Gate, Name};
 use std::sync::atomic::{AtomicBool, Ordering};
 use ttp_model::Instance;
 

@@ -4,13 +4,13 @@ ghost use Rattle.std.specs.Prelude.{◌≡◌, ◌≤◌, ◌++◌, ◌∷◌, [
 ghost use Rattle.ttp_model.specs.Delays.{delay};
 ghost use Rattle.ttp_model.specs.Plans.{IsValid};
 ghost use Rattle.certificate.specs.Cert.{Cert};
-ghost use Rattle.begun_search.specs.Begun.{nodes_of, IsBegun};
-ghost use Rattle.begun_search.specs.Proofs.{Proves};
-ghost use Rattle.begun_search.specs.Parts.{IsPortion};
-ghost use Rattle.begun_search.specs.Searching.{limit_of, IsFound, IsSearching, IsSomeSearch, SearchGoesOn};
-ghost use Rattle.begun_search.specs.aims.Aims.{Aims};
-ghost use Rattle.begun_search.specs.found.FoundPlan.{FoundPlan};
-ghost use Rattle.begun_search.specs.outcome.SolveFault.TheVariants as fault;
+ghost use Rattle.planner.specs.Begun.{nodes_of, IsBegun};
+ghost use Rattle.dropped_decisions.specs.Proofs.{Proves};
+ghost use Rattle.planner.specs.Parts.{IsPortion};
+ghost use Rattle.search_workers.specs.Searching.{limit_of, IsFound, IsSearching, IsSomeSearch, SearchGoesOn};
+ghost use Rattle.search_workers.specs.declared.aims.Aims.{Aims};
+ghost use Rattle.search_workers.specs.declared.found.FoundPlan.{FoundPlan};
+ghost use Rattle.search_workers.specs.declared.outcome.SolveFault.TheVariants as fault;
 ghost use Rattle.planner.specs.Answers.{best_of, cert_of, IsCalledOff, IsOutcome, Shows};
 ghost use Rattle.planner.specs.Onward.{further, on_fault, IsOnFault, IsOnward, IsOwn, IsProved, IsSomePart};
 ghost use Rattle.planner.specs.PartAnswers.{IsPartOutcome, IsPartSearch, IsPartWorked};
@@ -18,16 +18,20 @@ ghost use Rattle.planner.specs.Searched.{AreAims};
 ghost use Rattle.planner.specs.declared.onward.OnFault.TheVariants.{Search as OfSearch};
 
 use crate::aiming::course_of;
+use crate::begun::{Begun, begin};
 use crate::collecting::{pooled, whole_tree};
+use crate::fault::BeginFault;
 use crate::parting::{part_cause, part_concluded};
+use crate::parts::{Dealt, Portion, part_of};
 use crate::raised::raised;
 use crate::reserve::Reserve;
 use crate::solving::{begun_with, brought_out, by_lean_proof, finished, tell, workers_part};
-use begun_search::{
-    BeginFault, Begun, Course, Dealt, FoundPlan, Gate, Manner, Options, Outcome, Portion, Search,
-    Site, SolveFault, Task, Team, Why, aim, begin, part_of, spared_leaves,
-};
+use crate::spared::spared_leaves;
 use certificate::Cert;
+use search_workers::{
+    Course, FoundPlan, Gate, Manner, Options, Outcome, Search, Site, SolveFault, Task, Team, Why,
+    aim,
+};
 use std::alloc::Global;
 use std::marker::{Brand, Sync};
 use std::sync::Wait;

@@ -1,19 +1,20 @@
 //! How is what a part left of its own closed, and what does its tree say, in which the leaves of all others stay?
 
 ghost use Rattle.std.specs.Prelude.{◌≡◌, ◌≤◌, ℕ, IfOk, OnOk, All, length};
-ghost use Rattle.begun_search.specs.Begun.{nodes_of};
-ghost use Rattle.begun_search.specs.Searching.{IsWorkedOut};
-ghost use Rattle.begun_search.specs.Task.{IsTask};
-ghost use Rattle.begun_search.specs.outcome.Why.TheVariants as causes;
+ghost use Rattle.planner.specs.Begun.{nodes_of};
+ghost use Rattle.search_workers.specs.Searching.{IsWorkedOut};
+ghost use Rattle.search_workers.specs.Task.{IsTask};
+ghost use Rattle.search_workers.specs.declared.outcome.Why.TheVariants as causes;
 ghost use Rattle.planner.specs.Answers.{best_of, IsCalledOff};
 ghost use Rattle.planner.specs.Closing.{IsPartClosed};
 ghost use Rattle.planner.specs.PartAnswers.{IsPartEnd, IsPartOutcome, IsPartSearch};
 
 use crate::end_tree::ended;
 use crate::joining::join;
+use crate::parts::Dealt;
 use crate::solving::{certified, close_behind};
-use begun_search::{Aims, Dealt, Options, Outcome, Piece, Search, SolveFault, Task, Why, aim};
 use certificate::Version;
+use search_workers::{Aims, Options, Outcome, Piece, Search, SolveFault, Task, Why, aim};
 use std::alloc::Global;
 use ttp_model::{Instance, MemoryFault};
 

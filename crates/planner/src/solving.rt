@@ -4,16 +4,16 @@ ghost use Rattle.std.specs.Prelude.{◌≡◌, ◌≤◌, ◌+◌, IfOk, IfErr, 
 ghost use Rattle.ttp_model.specs.Delays.{delay};
 ghost use Rattle.ttp_model.specs.Instance.{Instance};
 ghost use Rattle.ttp_model.specs.Plans.{IsValid};
-ghost use Rattle.begun_search.specs.Account.{IsWholeTree};
-ghost use Rattle.begun_search.specs.Task.{IsTask};
-ghost use Rattle.begun_search.specs.Gathering.{AreShallow, HaveGoals, IsGathered};
-ghost use Rattle.begun_search.specs.outcome.SolveFault.TheVariants as fault;
-ghost use Rattle.begun_search.specs.outcome.Why.TheVariants as causes;
+ghost use Rattle.search_workers.specs.Account.{IsWholeTree};
+ghost use Rattle.search_workers.specs.Task.{IsTask};
+ghost use Rattle.search_workers.specs.Gathering.{AreShallow, HaveGoals, IsGathered};
+ghost use Rattle.search_workers.specs.declared.outcome.SolveFault.TheVariants as fault;
+ghost use Rattle.search_workers.specs.declared.outcome.Why.TheVariants as causes;
 ghost use Rattle.planner.specs.Answers.{best_of, IsCalledOff, IsOutcome, Shows};
 ghost use Rattle.planner.specs.Closing.{AreClosedBehind, IsClosedTree};
 ghost use Rattle.planner.specs.Crew.{workers_part};
 ghost use Rattle.planner.specs.Searched.{AreAims};
-ghost use Rattle.begun_search.specs.Searching.{aim_of, limit_of, IsFound, IsWorkedOut, IsSearching};
+ghost use Rattle.search_workers.specs.Searching.{aim_of, limit_of, IsFound, IsWorkedOut, IsSearching};
 
 use crate::aiming::course_of;
 use crate::closing::close_all;
@@ -22,12 +22,12 @@ use crate::end_tree::ended;
 use crate::joining::join;
 use crate::leaner::{lean_proof, leaner};
 use crate::reserve::Reserve;
-use begun_search::{
+use certificate::{Cert, Node, Version};
+use good_plan::good_plan;
+use search_workers::{
     Aims, Course, FoundPlan, FreeGate, Gate, Manner, Options, Outcome, Piece, Search, Site,
     SolveFault, Task, Team, Why, aim, better, gather_whole, root_bound,
 };
-use certificate::{Cert, Node, Version};
-use good_plan::good_plan;
 use std::alloc::Global;
 use std::marker::{Brand, Sync};
 use std::sync::Wait;

@@ -6,7 +6,7 @@ use Rattle.ttp_model.specs.Rules.{IsInstance}
 use Rattle.ttp_model.specs.declared.error.Place.TheVariants.{AtCluster}
 use Rattle.rates_model.specs.Rates.{Rates}
 use Rattle.rates_model.specs.Cycles.{round_of, rounds_in}
-use Rattle.unrolled_jobs.specs.Unrolled.{unrolled, unrolled_links, unrolled_messages, unrolled_processes}
+use Rattle.endless_schedules.specs.Unrolled.{unrolled, unrolled_links, unrolled_messages, unrolled_processes}
 
 some_factor : (rounds round : ℕ) → 1 ≤ rounds * round → 0 < round
 some_factor rounds zero least = absurd (omega (arith, mul-zero rounds, least))

@@ -1,3 +1,4 @@
+pub mod Again
 pub mod Unrollings
 pub mod Repeatings
 pub mod LinesAdded

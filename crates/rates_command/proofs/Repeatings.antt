@@ -6,9 +6,9 @@ use Rattle.ttp_model.specs.Instance.{Instance}
 use Rattle.ttp_model.specs.Rules.{IsInstance}
 use Rattle.command_streams.specs.declared.ending.Fault.{Fault}
 use Rattle.rates_model.specs.Rates.{Rates}
-use Rattle.unrolled_jobs.specs.declared.unrolling.UnrollFault.{UnrollFault}
-use Rattle.unrolled_jobs.specs.Refusals.{IsUnrollFault}
-use Rattle.unrolled_jobs.specs.Unrolled.{unrolled}
+use Rattle.endless_schedules.specs.declared.unrolling.UnrollFault.{UnrollFault}
+use Rattle.endless_schedules.specs.Refusals.{IsUnrollFault}
+use Rattle.endless_schedules.specs.Unrolled.{unrolled}
 use Rattle.rates_command.specs.declared.ending.RatesFault.{RatesFault}
 use Rattle.rates_command.specs.declared.ending.RatesFault.TheVariants.{Memory, Text, Unrolled, Unread, TooLong, OfPlan, Unwritten}
 use Rattle.rates_command.specs.declared.ending.RatesEnd.{RatesEnd}

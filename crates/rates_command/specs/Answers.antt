@@ -7,9 +7,9 @@ use Rattle.command_streams.specs.Outcomes.{IsWritten}
 use Rattle.command_streams.specs.Streams.{AppendsPart}
 use Rattle.rates_model.specs.Rates.{Rates}
 use Rattle.rates_text.specs.Faults.{IsFirstRatesFault, StatesRates}
-use Rattle.unrolled_jobs.specs.declared.unrolling.UnrollFault.{UnrollFault}
-use Rattle.unrolled_jobs.specs.Refusals.{IsUnrollFault}
-use Rattle.unrolled_jobs.specs.Unrolled.{unrolled}
+use Rattle.endless_schedules.specs.declared.unrolling.UnrollFault.{UnrollFault}
+use Rattle.endless_schedules.specs.Refusals.{IsUnrollFault}
+use Rattle.endless_schedules.specs.Unrolled.{unrolled}
 use Rattle.rates_command.specs.declared.limits.TheConstants.{RATES_LIMIT}
 use Rattle.rates_command.specs.declared.ending.RatesFault.{RatesFault}
 use Rattle.rates_command.specs.declared.ending.RatesFault.TheVariants.{Memory, Text, Unrolled, Unread, TooLong, OfPlan, Unwritten}

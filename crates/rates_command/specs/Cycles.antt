@@ -3,7 +3,7 @@ use Rattle.std.specs.Prelude.{◌≡◌, ◌≢◌, ℕ, zero, suc, ◌%◌, Lis
 use Rattle.ttp_model.specs.declared.plan.Plan.{Plan}
 use Rattle.rates_model.specs.Rates.{Rates, chain_at, process_at}
 use Rattle.rates_model.specs.Cycles.{cycle, round_of, rounds_in}
-use Rattle.unrolled_jobs.specs.Unrolled.{unrolled_links, unrolled_messages, unrolled_processes}
+use Rattle.endless_schedules.specs.Unrolled.{unrolled_links, unrolled_messages, unrolled_processes}
 use Rattle.plan_cycles.specs.declared.repetition.Near.{Near}
 use Rattle.plan_cycles.specs.Divisors.{Divides}
 use Rattle.plan_cycles.specs.Repetition.{IsNear}

@@ -2,7 +2,7 @@
 use Rattle.std.specs.Prelude.{ℕ}
 use Rattle.command_streams.specs.Endings.{fault_status}
 use Rattle.rates_text.specs.declared.error.RatesTextError.TheVariants as text
-use Rattle.unrolled_jobs.specs.declared.unrolling.UnrollFault.TheVariants as unrolled
+use Rattle.endless_schedules.specs.declared.unrolling.UnrollFault.TheVariants as unrolled
 use Rattle.rates_command.specs.declared.ending.RatesFault.{RatesFault}
 use Rattle.rates_command.specs.declared.ending.RatesFault.TheVariants.{Memory, Text, Unrolled, Unread, TooLong, OfPlan, Unwritten}
 use Rattle.rates_command.specs.declared.ending.RatesEnd.{RatesEnd}

@@ -1,3 +1,9 @@
+pub mod Reasons
+pub mod Rules
+pub mod Spots
+pub mod Tables
+pub mod Texts
+pub mod Wanted
 pub mod Endings
 pub mod Lines
 pub mod Answers

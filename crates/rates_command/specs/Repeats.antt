@@ -4,8 +4,8 @@ use Rattle.ttp_model.specs.Rules.{IsInstance}
 use Rattle.command_streams.specs.declared.ending.Fault.{Fault}
 use Rattle.ttp_model.specs.declared.plan.Plan.{Plan}
 use Rattle.rates_model.specs.Rates.{Rates}
-use Rattle.unrolled_jobs.specs.Unrolled.{unrolled}
-use Rattle.unrolled_jobs.specs.Refusals.{IsUnrollFault}
+use Rattle.endless_schedules.specs.Unrolled.{unrolled}
+use Rattle.endless_schedules.specs.Refusals.{IsUnrollFault}
 use Rattle.rates_command.specs.declared.ending.RatesFault.{RatesFault}
 use Rattle.rates_command.specs.declared.ending.RatesFault.TheVariants.{Memory, Text, Unrolled, Unread, TooLong, OfPlan}
 use Rattle.rates_command.specs.declared.ending.RatesEnd.{RatesEnd}

@@ -7,12 +7,12 @@ use Rattle.rates_model.specs.Cycles.{cycle, round_of, rounds_in}
 use Rattle.rates_model.specs.Rates.{Rates}
 use Rattle.rates_text.specs.declared.error.RatesTextError.{RatesTextError}
 use Rattle.rates_text.specs.Faults.{IsFirstRatesFault}
-use Rattle.unrolled_jobs.specs.declared.unrolling.UnrollFault.{UnrollFault}
-use Rattle.unrolled_jobs.specs.declared.unrolling.UnrollFault.TheVariants as unrolled
-use Rattle.unrolled_jobs.specs.Refusals.{IsUnrollFault}
-use Rattle.unrolled_jobs.specs.Unrolled.{unrolled}
-use Rattle.rates_reasons.specs.declared.reason.RatesReason.{RatesReason}
-use Rattle.rates_reasons.specs.Reasons.{IsRatesReason}
+use Rattle.endless_schedules.specs.declared.unrolling.UnrollFault.{UnrollFault}
+use Rattle.endless_schedules.specs.declared.unrolling.UnrollFault.TheVariants as unrolled
+use Rattle.endless_schedules.specs.Refusals.{IsUnrollFault}
+use Rattle.endless_schedules.specs.Unrolled.{unrolled}
+use Rattle.rates_command.specs.declared.reason.RatesReason.{RatesReason}
+use Rattle.rates_command.specs.Reasons.{IsRatesReason}
 use Rattle.rates_command.specs.declared.limits.TheConstants.{RATES_LIMIT}
 use Rattle.rates_command.specs.declared.ending.RatesFault.{RatesFault}
 use Rattle.rates_command.specs.declared.ending.RatesFault.TheVariants.{Memory, Text, TooLong, Unread, Unrolled}

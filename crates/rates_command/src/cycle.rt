@@ -3,7 +3,7 @@
 ghost use Rattle.std.specs.Prelude.{◌≡◌, ◌<◌, ◌≤◌};
 ghost use Rattle.ttp_model.specs.declared.limits.TheConstants.{MOST_TICKS};
 ghost use Rattle.rates_model.specs.Cycles.{cycle, round_of};
-ghost use Rattle.unrolled_jobs.specs.Unrolled.{unrolled};
+ghost use Rattle.endless_schedules.specs.Unrolled.{unrolled};
 ghost use Rattle.rates_command.specs.Cycles.{AreNearest, IsCycleOf};
 
 use plan_cycles::{Near, near_of};

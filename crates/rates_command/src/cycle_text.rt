@@ -2,7 +2,7 @@
 
 ghost use Rattle.std.specs.Prelude.{◌≡◌, ◌<◌, ◌++◌, IfOk, OnOk, length, string_bytes};
 ghost use Rattle.ttp_model.specs.Plans.{IsValid};
-ghost use Rattle.unrolled_jobs.specs.Unrolled.{unrolled};
+ghost use Rattle.endless_schedules.specs.Unrolled.{unrolled};
 ghost use Rattle.rates_command.specs.Cycles.{AddsLine, AddsLines, IsChainLine, IsCycleText, IsPlanText, IsProcessLine, chain_line, counts_text, near_text, process_line, rounds_text};
 
 use crate::cycle::{RatesCycle, cycle_of};

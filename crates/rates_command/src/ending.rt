@@ -4,8 +4,8 @@ ghost use Rattle.std.specs.Prelude.{◌≡◌};
 ghost use Rattle.rates_command.specs.Endings.{rates_fault_status, rates_status_of};
 
 use command_streams::{Fault, status_of_fault as status_of_plan};
+use endless_schedules::UnrollFault;
 use rates_text::RatesTextError;
-use unrolled_jobs::UnrollFault;
 
 /// Why such a command was refused.
 #[derive(Drop)]

@@ -4,24 +4,24 @@ ghost use Rattle.std.specs.Prelude.{◌≡◌, ◌≢◌, ◌+◌, ◌≤◌, �
 ghost use Rattle.command_streams.specs.Streams.{TakesAtMost};
 ghost use Rattle.rates_text.specs.declared.error.RatesTextError.TheVariants as text;
 ghost use Rattle.rates_text.specs.Faults.{IsFirstRatesFault};
-ghost use Rattle.unrolled_jobs.specs.Refusals.{IsUnrollFault};
+ghost use Rattle.endless_schedules.specs.Refusals.{IsUnrollFault};
 ghost use Rattle.rates_command.specs.declared.limits.TheConstants.{RATES_LIMIT};
 ghost use Rattle.rates_command.specs.Answers.{IsRatesAnswer};
 ghost use Rattle.rates_command.specs.Telling.{IsUntold, TellsBytes, TellsRates, TellsText, TellsUnrolled, line_of};
 
 use crate::ending::{RatesEnd, RatesFault};
 use crate::limits::RATES_LIMIT;
+use crate::reason::{rates_reason_of, reread_rates};
 use crate::refused::put_refused;
 use crate::sizes::sizes_of;
 use command_streams::{Stop, take_input, write_text};
+use endless_schedules::{UnrollFault, unroll};
 use rates_model::Rates;
-use rates_reasons::{rates_reason_of, reread_rates};
 use rates_text::RatesTextError;
 use sentences::put;
 use std::alloc::{AllocError, Global};
 use std::io::{Read, Write};
 use ttp_model::MemoryFault;
-use unrolled_jobs::{UnrollFault, unroll};
 
 /// Adds the line of a fault.
 #[tactic(auto, unfolding(crate::specs::Telling::line_of))]

@@ -2,17 +2,17 @@
 
 ghost use Rattle.std.specs.Prelude.{Some};
 ghost use Rattle.command_streams.specs.Lines.{part_word};
-ghost use Rattle.unrolled_jobs.specs.Tables.{instance_of};
+ghost use Rattle.endless_schedules.specs.Tables.{instance_of};
 ghost use Rattle.rates_command.specs.Lines.{named_line, rates_line, rates_model_line, rates_part_word, rates_place_words, rates_table_words, rates_text_line, unroll_line};
 
 use crate::ending::RatesFault;
 use crate::named::{LinkNames, NamedPlace, SpacedNames, message_name, node_name, process_name};
+use endless_schedules::{UnrollFault, UnrolledTables};
 use instance_text::Place;
 use rates_model::{RatesError, RatesPart, RatesPlace};
 use rates_text::{RatesTable, RatesTextError};
 use std::fmt;
 use ttp_model::{ModelError, Part};
-use unrolled_jobs::{UnrollFault, UnrolledTables};
 
 #[derive(Drop)]
 struct RatesPartWord(RatesPart);

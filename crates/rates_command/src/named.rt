@@ -4,12 +4,12 @@ ghost use Rattle.std.specs.Prelude.{◌≡◌, Some};
 ghost use Rattle.std.specs.List.{flat_map};
 ghost use Rattle.ttp_model.specs.Instance.{link_at};
 ghost use Rattle.ttp_model.specs.Names.{message_name, node_name, process_name};
-ghost use Rattle.unrolled_jobs.specs.Tables.{instance_of};
+ghost use Rattle.endless_schedules.specs.Tables.{instance_of};
 ghost use Rattle.rates_command.specs.Lines.{link_names, named_place, spaced_name};
 
+use endless_schedules::UnrolledTables;
 use std::fmt;
 use ttp_model::{Link, Place};
-use unrolled_jobs::UnrolledTables;
 
 /// The name of node `n`: no bytes where it isn't there.
 pub fn node_name(tables: &UnrolledTables, n: u32) -> &str

@@ -2,12 +2,13 @@
 
 ghost use Rattle.std.specs.Prelude.{OnOk, string_bytes};
 ghost use Rattle.sentences.specs.Shown.{Gains, IsShown};
-ghost use Rattle.unrolled_jobs.specs.Refusals.{IsRefused, IsUnrollFault};
-ghost use Rattle.unrolled_jobs.specs.declared.unrolling.UnrollFault.TheVariants as unrolled;
+ghost use Rattle.endless_schedules.specs.Refusals.{IsRefused, IsUnrollFault};
+ghost use Rattle.endless_schedules.specs.declared.unrolling.UnrollFault.TheVariants as unrolled;
 ghost use Rattle.rates_command.specs.Answers.{IsOfUnrolling};
 ghost use Rattle.rates_command.specs.Telling.{IsReasonOf, IsUnrollReason};
 
 use crate::ending::RatesFault;
+use endless_schedules::{UnrollFault, Unrollable, UnrolledTables};
 use instance_reasons::{RuleReason, entry_words, rule_reason};
 use instance_text::Parts;
 use rates_model::Rates;
@@ -17,7 +18,6 @@ use std::alloc::Global;
 use std::fmt;
 use std::fmt::Display;
 use ttp_model::{MOST_LINKS, MOST_MESSAGES, MOST_NODES, MOST_PROCESSES, MemoryFault, Part};
-use unrolled_jobs::{UnrollFault, Unrollable, UnrolledTables};
 
 /// A list of a cycle that is longer than that of any instance.
 #[derive(Clone, Copy)]

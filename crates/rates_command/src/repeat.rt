@@ -5,7 +5,7 @@ ghost use Rattle.std.specs.Io.KnownBytes.{Keeps};
 ghost use Rattle.ttp_model.specs.Plans.{IsValid};
 ghost use Rattle.command_streams.specs.declared.limits.TheConstants.{PLAN_LIMIT};
 ghost use Rattle.command_streams.specs.Streams.{TakesAtMost};
-ghost use Rattle.unrolled_jobs.specs.Unrolled.{unrolled};
+ghost use Rattle.endless_schedules.specs.Unrolled.{unrolled};
 ghost use Rattle.rates_command.specs.declared.limits.TheConstants.{RATES_LIMIT};
 ghost use Rattle.rates_command.specs.Answers.{IsOfMemory, IsOfUnrolling, IsRatesAnswer};
 ghost use Rattle.rates_command.specs.Cycles.{IsCycleText, IsPlanText};
@@ -16,11 +16,11 @@ use crate::ending::{RatesEnd, RatesFault};
 use crate::plan::read_plan;
 use crate::reading::read_rates;
 use command_streams::write_text;
+use endless_schedules::unroll;
 use rates_model::Rates;
 use std::alloc::Global;
 use std::io::{Read, Write};
 use ttp_model::{Instance, Plan};
-use unrolled_jobs::unroll;
 
 /// Writes what is told of a cluster, with the instance of its cycle.
 fn write_cycle<W: Write>(alloc: Global, rates: &Rates, instance: &Instance, out: &mut W) -> RatesEnd

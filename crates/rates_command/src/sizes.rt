@@ -1,7 +1,7 @@
 //! How large is a cluster of several rates, and the instance of its cycle?
 
 ghost use Rattle.std.specs.Prelude.{◌≡◌};
-ghost use Rattle.unrolled_jobs.specs.Unrolled.{unrolled};
+ghost use Rattle.endless_schedules.specs.Unrolled.{unrolled};
 ghost use Rattle.rates_command.specs.Telling.{AreSizes};
 
 use rates_model::Rates;

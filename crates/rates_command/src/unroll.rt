@@ -2,19 +2,19 @@
 
 ghost use Rattle.std.specs.Prelude.{◌+◌, IfSome};
 ghost use Rattle.command_streams.specs.Streams.{TakesAtMost};
-ghost use Rattle.unrolled_jobs.specs.Unrolled.{unrolled};
+ghost use Rattle.endless_schedules.specs.Unrolled.{unrolled};
 ghost use Rattle.rates_command.specs.declared.limits.TheConstants.{RATES_LIMIT};
 ghost use Rattle.rates_command.specs.Answers.{IsOfInstance, IsOfMemory, IsOfUnrolling, IsRatesAnswer, IsUnrollAnswer};
 
 use crate::ending::{RatesEnd, RatesFault};
 use crate::reading::read_rates;
 use command_streams::write_text;
+use endless_schedules::unroll;
 use instance_text::print;
 use rates_model::Rates;
 use std::alloc::Global;
 use std::io::{Read, Write};
 use ttp_model::Instance;
-use unrolled_jobs::unroll;
 
 /// Writes a text that states an instance.
 fn write_instance<W: Write>(alloc: Global, instance: &Instance, out: &mut W) -> RatesEnd

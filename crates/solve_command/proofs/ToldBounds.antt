@@ -11,7 +11,7 @@ use Rattle.planner.specs.Ends.{IsAnswerOf}
 use Rattle.planner.specs.Onward.{further, told_low, IsOnward, IsOwn, IsProved, IsRaised}
 use Rattle.planner.specs.Searching.{aim_of, limit_of}
 use Rattle.planner.specs.declared.onward.OnFault.{OnFault}
-use Rattle.planner.specs.parts.Portion.{Portion}
+use Rattle.planner.specs.declared.parts.Portion.{Portion}
 use Rattle.planner.specs.found.FoundPlan.{FoundPlan}
 use Rattle.planner.specs.outcome.Options.{Options}
 use Rattle.planner.specs.outcome.Outcome.{Outcome}

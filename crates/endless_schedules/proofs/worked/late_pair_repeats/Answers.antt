@@ -1,7 +1,7 @@
 use Rattle.std.proofs.Common.{sym, subst}
 use Rattle.ttp_model.specs.Plans.{IsValid}
 use Rattle.ttp_model.specs.Rules.{IsInstance}
-use Rattle.unrolled_jobs.specs.Unrolled.{unrolled}
+use Rattle.endless_schedules.specs.Unrolled.{unrolled}
 use Rattle.endless_schedules.specs.Worked.{late_pair, late_plan}
 use Rattle.endless_schedules.proofs.Sound.{repeats_rightly}
 use Rattle.endless_schedules.proofs.WorkedJobs.{late_jobs_is_instance, late_pair_is_unrolled}

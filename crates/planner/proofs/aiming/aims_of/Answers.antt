@@ -1,5 +1,5 @@
 use Rattle.std.proofs.Common.{arith}
-use Rattle.begun_search.proofs.Goals.{goal_above}
+use Rattle.search_workers.proofs.Goals.{goal_above}
 use Rattle.planner.proofs.aiming.aims_of.Goals as goal
 
 pub returns-clause-aims : goal.returns-clause-aims

@@ -1,5 +1,5 @@
 use Rattle.std.proofs.Common.{List, ◌++◌, ◌∷◌, [], sym, subst}
-use Rattle.begun_search.specs.piece.Piece.{Piece}
+use Rattle.search_workers.specs.piece.Piece.{Piece}
 use Rattle.planner.specs.Closing.{AreClosed}
 use Rattle.planner.proofs.Ending.{closed_lower, closes_more}
 use Rattle.planner.proofs.closing.close_all.Goals as goal

@@ -1,6 +1,6 @@
 use Rattle.std.proofs.Common.{ℕ, List, [], sym, ap, ◌∙◌, subst}
 use Rattle.incumbent.specs.Watch.{offers, out_count, IsOpening}
-use Rattle.begun_search.specs.Searching.{IsFound}
+use Rattle.search_workers.specs.Searching.{IsFound}
 use Rattle.planner.specs.Crew.{told}
 use Rattle.planner.proofs.collecting.begun.Goals as goal
 

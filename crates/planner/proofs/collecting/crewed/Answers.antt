@@ -2,10 +2,10 @@ use Rattle.std.proofs.Common.{arith, ◌≡◌, List, length, sym, ap, ◌∙◌
 use Rattle.std.specs.List.Sorted.{IsPermutation}
 use Rattle.std.proofs.lemmas.List.{length-map}
 use Rattle.incumbent.specs.Watch.{out_count}
-use Rattle.begun_search.specs.hand.Hand.{Hand}
-use Rattle.begun_search.specs.Hand.{all_pushed, all_taken, IsPool}
+use Rattle.search_workers.specs.hand.Hand.{Hand}
+use Rattle.search_workers.specs.Hand.{all_pushed, all_taken, IsPool}
 use Rattle.planner.specs.declared.crew.Crew.{Crew}
-use Rattle.begun_search.specs.job.Job.{Job}
+use Rattle.search_workers.specs.declared.job.Job.{Job}
 use Rattle.planner.specs.Crew.{hands_of}
 use Rattle.planner.proofs.Crews.{nobody_yet}
 use Rattle.planner.proofs.Reports.{watches_of}

@@ -1,6 +1,6 @@
 use Rattle.std.proofs.Common.{arith, ◌≡◌, List, [], ◌∷◌, ◌++◌, All, length, refl, sym, ap, ◌∙◌, subst}
 use Rattle.std.proofs.lemmas.List.Elements.{All-nil}
-use Rattle.begun_search.specs.hand.Hand.{Hand}
+use Rattle.search_workers.specs.hand.Hand.{Hand}
 use Rattle.planner.specs.Crew.{hands_of, budget_of, IsJob}
 use Rattle.planner.proofs.collecting.deal_all.Goals as goal
 

@@ -1,4 +1,4 @@
-use Rattle.begun_search.specs.job.Job.{Job}
+use Rattle.search_workers.specs.declared.job.Job.{Job}
 use Rattle.planner.proofs.Jobs.{more_hands, more_jobs, more_budget, more_many}
 use Rattle.planner.proofs.collecting.deal_one.Goals as goal
 

@@ -2,9 +2,9 @@ use Rattle.std.proofs.Common.{◌++◌, ◌∷◌, [], List, All, refl, sym, ap,
 use Rattle.std.proofs.lemmas.List.{append-nil}
 use Rattle.std.proofs.lemmas.List.Elements.{All-push}
 use Rattle.std.proofs.lemmas.List.Sorted.{IsPermutation-refl, IsPermutation-trans, IsPermutation-append_right}
-use Rattle.begun_search.specs.Task.{Task, IsTask}
-use Rattle.begun_search.specs.Drained.{taken_there}
-use Rattle.begun_search.proofs.Searching.{first_is}
+use Rattle.search_workers.specs.Task.{Task, IsTask}
+use Rattle.search_workers.specs.Drained.{taken_there}
+use Rattle.search_workers.proofs.Searching.{first_is}
 use Rattle.planner.proofs.Collected.{one_drained}
 use Rattle.planner.proofs.collecting.drain_into.Goals as goal
 

@@ -1,7 +1,7 @@
 use Rattle.std.proofs.Common.{◌≡◌, ◌++◌, List}
 use Rattle.std.specs.Prelude.{All, IsPermutation}
-use Rattle.begun_search.specs.Task.{Task, IsTask}
-use Rattle.begun_search.specs.Drained.{left_there, pushed_there, taken_there}
+use Rattle.search_workers.specs.Task.{Task, IsTask}
+use Rattle.search_workers.specs.Drained.{left_there, pushed_there, taken_there}
 use Rattle.planner.proofs.collecting.drain_into.Given as goal
 
 abbrev pub decreases-left : goal.decreases-left

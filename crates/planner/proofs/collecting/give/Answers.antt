@@ -3,11 +3,11 @@ use Rattle.std.specs.List.Sorted.{IsPermutation}
 use Rattle.std.proofs.lemmas.List.{append-nil}
 use Rattle.std.proofs.lemmas.List.Elements.{All-tail}
 use Rattle.std.proofs.lemmas.List.Sorted.{All-permutation, IsPermutation-refl, IsPermutation-trans, IsPermutation-append_comm, IsPermutation-append_right}
-use Rattle.begun_search.specs.Task.{Task, IsTask}
-use Rattle.begun_search.specs.Hand.{pushed}
-use Rattle.begun_search.proofs.Orders.{nil_of_length}
-use Rattle.begun_search.proofs.Searching.{first_is}
-use Rattle.begun_search.proofs.Turns.{same_hand_still}
+use Rattle.search_workers.specs.Task.{Task, IsTask}
+use Rattle.search_workers.specs.Hand.{pushed}
+use Rattle.search_workers.proofs.Orders.{nil_of_length}
+use Rattle.search_workers.proofs.Searching.{first_is}
+use Rattle.search_workers.proofs.Turns.{same_hand_still}
 use Rattle.planner.proofs.collecting.give.Goals as goal
 
 pub loop-task-init : goal.loop-task-init

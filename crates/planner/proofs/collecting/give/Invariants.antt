@@ -1,7 +1,7 @@
 use Rattle.std.proofs.Common.{◌≡◌, ◌++◌, List, vec_len}
 use Rattle.std.specs.Prelude.{All, IsPermutation}
-use Rattle.begun_search.specs.Task.{Task, IsTask}
-use Rattle.begun_search.specs.Hand.{pushed, taken, IsSameHand}
+use Rattle.search_workers.specs.Task.{Task, IsTask}
+use Rattle.search_workers.specs.Hand.{pushed, taken, IsSameHand}
 use Rattle.planner.proofs.collecting.give.Given as goal
 
 abbrev pub decreases-loop-task : goal.decreases-loop-task

@@ -1,5 +1,5 @@
 use Rattle.std.proofs.Common.{rules, ◌<◌, length, slice_set}
-use Rattle.begun_search.proofs.Pools.{changed}
+use Rattle.search_workers.proofs.Pools.{changed}
 use Rattle.planner.specs.Crew.{IsGiven}
 use Rattle.planner.proofs.Pools.{pool_given, pushed_given, taken_given}
 use Rattle.planner.proofs.collecting.planted.Goals as goal

@@ -1,5 +1,5 @@
 use Rattle.std.proofs.Common.{arith, length, length-append, ap, ◌∙◌}
-use Rattle.begun_search.proofs.Searching.{own_tasks}
+use Rattle.search_workers.proofs.Searching.{own_tasks}
 use Rattle.planner.proofs.Pooled.{worked_before}
 use Rattle.planner.proofs.collecting.pooled.Goals as goal
 

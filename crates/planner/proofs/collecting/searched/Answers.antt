@@ -1,8 +1,8 @@
 use Rattle.std.proofs.Common.{arith, ◌≡◌, ◌≤◌, All, length, ap, sym, subst}
 use Rattle.ttp_model.specs.Instance.{Instance}
 use Rattle.ttp_model.specs.Rules.{IsInstance}
-use Rattle.begun_search.specs.Searching.{limit_of}
-use Rattle.begun_search.specs.Task.{IsTask}
+use Rattle.search_workers.specs.Searching.{limit_of}
+use Rattle.search_workers.specs.Task.{IsTask}
 use Rattle.planner.specs.Crew.{IsNobody}
 use Rattle.planner.proofs.collecting.searched.Goals as goal
 

@@ -1,7 +1,7 @@
 use Rattle.std.proofs.Common.{arith, subst}
 use Rattle.ttp_model.specs.declared.error.Place.TheVariants.{AtCluster}
-use Rattle.begun_search.specs.Searching.{IsFound}
-use Rattle.begun_search.proofs.Searching.{found_small}
+use Rattle.search_workers.specs.Searching.{IsFound}
+use Rattle.search_workers.proofs.Searching.{found_small}
 use Rattle.planner.proofs.collecting.tell.Goals as goal
 
 pub overflow_cast-known : goal.overflow_cast-known

@@ -1,6 +1,6 @@
 use Rattle.std.proofs.Common.{refl}
-use Rattle.begun_search.specs.Task.{Task, IsTask}
-use Rattle.begun_search.proofs.Searching.{one_only}
+use Rattle.search_workers.specs.Task.{Task, IsTask}
+use Rattle.search_workers.proofs.Searching.{one_only}
 use Rattle.planner.proofs.collecting.whole_tree.Goals as goal
 
 pub returns-clause-root : goal.returns-clause-root

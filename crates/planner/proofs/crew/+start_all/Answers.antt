@@ -1,7 +1,7 @@
 use Rattle.std.proofs.Common.{rules, ◌≡◌, ◌++◌, ◌∷◌, [], List, All, sym, subst}
 use Rattle.std.proofs.lemmas.Result.{on_ok_weaker}
-use Rattle.begun_search.specs.job.Job.{Job}
-use Rattle.begun_search.proofs.Searching.{front_of}
+use Rattle.search_workers.specs.declared.job.Job.{Job}
+use Rattle.search_workers.proofs.Searching.{front_of}
 use Rattle.planner.specs.Crew.{AreReportsOf, IsJob, IsReportOfJob}
 use Rattle.planner.proofs.Reports.{one_more_report}
 use Rattle.planner.proofs.crew.+start_all.Goals as goal

@@ -1,6 +1,6 @@
 use Rattle.std.proofs.Common.{Option, sym, subst}
-use Rattle.begun_search.specs.found.FoundPlan.{FoundPlan}
-use Rattle.begun_search.specs.Searching.{IsBetter, IsFound}
+use Rattle.search_workers.specs.declared.found.FoundPlan.{FoundPlan}
+use Rattle.search_workers.specs.Searching.{IsBetter, IsFound}
 use Rattle.planner.proofs.crew.keep_better.Goals as goal
 
 pub returns : goal.returns

@@ -1,8 +1,8 @@
 use Rattle.std.proofs.Common.{◌≤◌, sym, subst}
 use Rattle.certificate.specs.Cert.{Cert}
 use Rattle.certificate.specs.Trees.{preorder}
-use Rattle.begun_search.specs.Searching.{limit_of}
-use Rattle.begun_search.specs.Ends.{IsAnswerOf}
+use Rattle.search_workers.specs.Searching.{limit_of}
+use Rattle.search_workers.specs.Ends.{IsAnswerOf}
 use Rattle.planner.specs.Searched.{IsLowest}
 use Rattle.planner.proofs.Lowest.{below_limit}
 use Rattle.planner.proofs.Starts.{answer_best, called_off_only}

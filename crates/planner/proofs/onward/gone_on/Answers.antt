@@ -1,16 +1,16 @@
 use Rattle.std.proofs.Common.{◌≡◌, ◌++◌, [], ◌∷◌, Option, IfSome, subst}
 use Rattle.std.proofs.lemmas.Result.{IfOk-weaker}
 use Rattle.ttp_model.specs.Instance.{Instance}
-use Rattle.begun_search.specs.Begun.{nodes_of}
-use Rattle.begun_search.specs.Parts.{others_of, IsPartOf}
-use Rattle.begun_search.specs.Searching.{IsSearching}
-use Rattle.begun_search.specs.Task.{root_task}
-use Rattle.begun_search.specs.aims.Aims.{Aims}
-use Rattle.begun_search.specs.declared.begun.Begun.{Begun}
-use Rattle.begun_search.specs.declared.parts.Dealt.{Dealt}
-use Rattle.begun_search.specs.declared.parts.Portion.{Portion}
-use Rattle.begun_search.proofs.Dealing.{as_many}
-use Rattle.begun_search.proofs.Searching.{in_any_order}
+use Rattle.planner.specs.Begun.{nodes_of}
+use Rattle.planner.specs.Parts.{others_of, IsPartOf}
+use Rattle.search_workers.specs.Searching.{IsSearching}
+use Rattle.search_workers.specs.Task.{root_task}
+use Rattle.search_workers.specs.declared.aims.Aims.{Aims}
+use Rattle.planner.specs.declared.begun.Begun.{Begun}
+use Rattle.planner.specs.declared.parts.Dealt.{Dealt}
+use Rattle.planner.specs.declared.parts.Portion.{Portion}
+use Rattle.planner.proofs.Dealing.{as_many}
+use Rattle.search_workers.proofs.Searching.{in_any_order}
 use Rattle.planner.proofs.PartTrees.{same_others}
 use Rattle.planner.proofs.Proved.{outcome_proved, part_proved}
 use Rattle.planner.proofs.onward.gone_on.Goals as goal

@@ -1,5 +1,5 @@
 use Rattle.std.proofs.Common.{[], ◌∷◌}
-use Rattle.begun_search.specs.Task.{root_task}
+use Rattle.search_workers.specs.Task.{root_task}
 use Rattle.planner.proofs.onward.of_part.Goals as goal
 
 pub part_worked-requires-clause-searching : goal.part_worked-requires-clause-searching

@@ -1,5 +1,5 @@
 use Rattle.std.proofs.Common.{arith}
-use Rattle.begun_search.proofs.Searching.{goes_some, goes_then}
+use Rattle.search_workers.proofs.Searching.{goes_some, goes_then}
 use Rattle.planner.proofs.onward.part_pooled.Goals as goal
 
 pub go-why-requires-clause-searching : goal.go-why-requires-clause-searching

@@ -1,6 +1,6 @@
 use Rattle.std.proofs.Common.{[], ◌∷◌, All, subst}
-use Rattle.begun_search.specs.Task.{IsTask, root_task}
-use Rattle.begun_search.proofs.Searching.{begun}
+use Rattle.search_workers.specs.Task.{IsTask, root_task}
+use Rattle.search_workers.proofs.Searching.{begun}
 use Rattle.planner.proofs.onward.search_of.Goals as goal
 
 pub returns-clause-begins : goal.returns-clause-begins

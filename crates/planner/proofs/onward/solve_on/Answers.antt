@@ -1,7 +1,7 @@
 use Rattle.std.proofs.Common.{◌≡◌, ◌≤◌, Option, length, subst, ap, ◌∙◌, arith}
 use Rattle.certificate.specs.Trees.{preorder}
-use Rattle.begun_search.specs.Searching.{aim_of, limit_of}
-use Rattle.begun_search.specs.found.FoundPlan.{FoundPlan}
+use Rattle.search_workers.specs.Searching.{aim_of, limit_of}
+use Rattle.search_workers.specs.declared.found.FoundPlan.{FoundPlan}
 use Rattle.planner.specs.Answers.{best_of}
 use Rattle.planner.specs.Onward.{further}
 use Rattle.planner.proofs.Proved.{proved_shows}

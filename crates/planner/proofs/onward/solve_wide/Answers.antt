@@ -1,7 +1,7 @@
 use Rattle.std.proofs.Common.{◌≤◌, Option, IfOk, ℕ, subst}
 use Rattle.std.proofs.lemmas.Result.{IfOk-weaker}
-use Rattle.begun_search.specs.Searching.{limit_of}
-use Rattle.begun_search.specs.found.FoundPlan.{FoundPlan}
+use Rattle.search_workers.specs.Searching.{limit_of}
+use Rattle.search_workers.specs.declared.found.FoundPlan.{FoundPlan}
 use Rattle.planner.specs.Answers.{best_of, IsOutcome}
 use Rattle.planner.proofs.Starts.{no_later_than}
 use Rattle.planner.proofs.onward.solve_wide.Goals as goal

@@ -1,7 +1,7 @@
 use Rattle.std.proofs.Common.{arith, [], ◌∷◌, ap}
 use Rattle.std.proofs.lemmas.Result.{IfOk-weaker}
-use Rattle.begun_search.specs.Searching.{limit_of}
-use Rattle.begun_search.specs.Task.{root_task}
+use Rattle.search_workers.specs.Searching.{limit_of}
+use Rattle.search_workers.specs.Task.{root_task}
 use Rattle.planner.proofs.onward.whole.Goals as goal
 
 pub worked_by_pool-requires-clause-searching : goal.worked_by_pool-requires-clause-searching

@@ -1,7 +1,7 @@
 use Rattle.std.proofs.Common.{arith, [], ◌∷◌, ap}
 use Rattle.std.proofs.lemmas.Result.{IfOk-weaker}
-use Rattle.begun_search.specs.Searching.{limit_of}
-use Rattle.begun_search.specs.Task.{root_task}
+use Rattle.search_workers.specs.Searching.{limit_of}
+use Rattle.search_workers.specs.Task.{root_task}
 use Rattle.planner.proofs.onward.whole_wide.Goals as goal
 
 pub widen-why-requires-clause-searching : goal.widen-why-requires-clause-searching

@@ -1,8 +1,8 @@
 use Rattle.std.proofs.Common.{[], ◌∷◌, arith, ap}
 use Rattle.std.proofs.lemmas.Result.{IfOk-weaker}
-use Rattle.begun_search.specs.Searching.{limit_of}
-use Rattle.begun_search.specs.Task.{root_task}
-use Rattle.begun_search.specs.search.Search.{Search}
+use Rattle.search_workers.specs.Searching.{limit_of}
+use Rattle.search_workers.specs.Task.{root_task}
+use Rattle.search_workers.specs.declared.search.Search.{Search}
 use Rattle.planner.proofs.onward.wide_end.Goals as goal
 
 pub widen-why-requires-clause-searching : goal.widen-why-requires-clause-searching

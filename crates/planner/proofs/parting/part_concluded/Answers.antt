@@ -1,10 +1,10 @@
 use Rattle.std.proofs.Common.{◌≡◌, [], ◌++◌, List, refl, sym, subst}
-use Rattle.begun_search.specs.Account.{IsWholeTree}
-use Rattle.begun_search.specs.Begun.{nodes_of}
-use Rattle.begun_search.specs.Gathering.{AreShallow, IsGathered}
-use Rattle.begun_search.specs.Task.{IsTask}
-use Rattle.begun_search.specs.piece.Piece.{Piece}
-use Rattle.begun_search.proofs.Searching.{back_all}
+use Rattle.search_workers.specs.Account.{IsWholeTree}
+use Rattle.planner.specs.Begun.{nodes_of}
+use Rattle.search_workers.specs.Gathering.{AreShallow, IsGathered}
+use Rattle.search_workers.specs.Task.{IsTask}
+use Rattle.search_workers.specs.piece.Piece.{Piece}
+use Rattle.search_workers.proofs.Searching.{back_all}
 use Rattle.planner.specs.Answers.{in_answer}
 use Rattle.planner.specs.PartAnswers.{IsPartTree}
 use Rattle.planner.proofs.PartTrees.{any_goals, part_ends, part_outcome, part_shallow, part_whole}

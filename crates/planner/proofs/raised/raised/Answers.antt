@@ -1,7 +1,7 @@
 use Rattle.std.proofs.Common.{inl, sym, subst, arith}
-use Rattle.begun_search.specs.Searching.{IsFound}
-use Rattle.begun_search.specs.outcome.Outcome.{Outcome}
-use Rattle.begun_search.specs.outcome.Outcome.TheVariants.{Optimal, Infeasible}
+use Rattle.search_workers.specs.Searching.{IsFound}
+use Rattle.search_workers.specs.declared.outcome.Outcome.{Outcome}
+use Rattle.search_workers.specs.declared.outcome.Outcome.TheVariants.{Optimal, Infeasible}
 use Rattle.planner.specs.Answers.{best_of}
 use Rattle.planner.specs.Onward.{IsProved}
 use Rattle.planner.proofs.RaisedBounds.{end_enough, end_proved, joined_more, told_enough}

@@ -1,5 +1,5 @@
 use Rattle.std.proofs.Common.{◌≡◌}
-use Rattle.begun_search.specs.outcome.Why.TheVariants.{CalledOff, Gap}
+use Rattle.search_workers.specs.declared.outcome.Why.TheVariants.{CalledOff, Gap}
 use Rattle.planner.specs.Answers.{IsOutcome}
 use Rattle.planner.proofs.Shown.{answer_shows}
 use Rattle.planner.proofs.Ended.{end_outcome}

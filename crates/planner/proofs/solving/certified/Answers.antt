@@ -1,4 +1,4 @@
-use Rattle.begun_search.proofs.Whole.{whole_tree_names}
+use Rattle.search_workers.proofs.Whole.{whole_tree_names}
 use Rattle.planner.proofs.solving.certified.Goals as goal
 
 pub gather_whole-requires-clause-names : goal.gather_whole-requires-clause-names

@@ -1,8 +1,8 @@
 use Rattle.std.proofs.Common.{List, [], sym, subst}
-use Rattle.begun_search.specs.piece.Piece.{Piece}
-use Rattle.begun_search.specs.Account.{IsWholeTree}
-use Rattle.begun_search.specs.Searching.{aim_of}
-use Rattle.begun_search.specs.Gathering.{AreShallow, HaveGoals}
+use Rattle.search_workers.specs.piece.Piece.{Piece}
+use Rattle.search_workers.specs.Account.{IsWholeTree}
+use Rattle.search_workers.specs.Searching.{aim_of}
+use Rattle.search_workers.specs.Gathering.{AreShallow, HaveGoals}
 use Rattle.planner.specs.Closing.{AreClosedBehind}
 use Rattle.planner.proofs.Ending.{end_shallow, end_whole, end_goals}
 use Rattle.planner.proofs.solving.closed_tree.Goals as goal

@@ -1,7 +1,7 @@
 use Rattle.std.proofs.Common.{◌≤◌, arith, ℕ, IfOk, List, subst}
 use Rattle.std.proofs.lemmas.Result.{IfOk-weaker}
-use Rattle.begun_search.specs.Task.{Task}
-use Rattle.begun_search.specs.Searching.{limit_of, IsSearchingOf}
+use Rattle.search_workers.specs.Task.{Task}
+use Rattle.search_workers.specs.Searching.{limit_of, IsSearchingOf}
 use Rattle.planner.specs.Answers.{best_of, IsOutcome}
 use Rattle.planner.proofs.Starts.{no_later_than}
 use Rattle.planner.proofs.solving.solve_towards.Goals as goal

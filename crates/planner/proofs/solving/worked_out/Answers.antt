@@ -1,8 +1,8 @@
 use Rattle.std.proofs.Common.{◌≤◌, [], ◌∷◌, Option, sym, subst}
 use Rattle.std.proofs.lemmas.Result.{IfOk-weaker}
-use Rattle.begun_search.specs.found.FoundPlan.{FoundPlan}
-use Rattle.begun_search.specs.Searching.{limit_of}
-use Rattle.begun_search.specs.Task.{root_task}
+use Rattle.search_workers.specs.declared.found.FoundPlan.{FoundPlan}
+use Rattle.search_workers.specs.Searching.{limit_of}
+use Rattle.search_workers.specs.Task.{root_task}
 use Rattle.planner.proofs.solving.worked_out.Goals as goal
 
 pub returns-clause-called_off : goal.returns-clause-called_off

@@ -1,10 +1,10 @@
 use Rattle.std.proofs.Common.{◌≡◌, ℕ, ◌<◌, length, arith, refl, lit<, lit≤}
 use Rattle.ttp_model.specs.Instance.{process_at}
 use Rattle.rates_model.specs.Cycles.{cycle, least_multiple, least_times}
-use Rattle.unrolled_jobs.specs.Names.{numbered, stored_name}
-use Rattle.unrolled_jobs.specs.Stores.{first_store, job_index, storing_nodes, with_new}
-use Rattle.unrolled_jobs.specs.Times.{job_deadline}
-use Rattle.unrolled_jobs.specs.Unrolled.{job, job_message, jobs, jobs_reading, link_to, links_of, messages_of, readers, sent_of, store, stores, stores_reading, unrolled, unrolled_node}
+use Rattle.endless_schedules.specs.Names.{numbered, stored_name}
+use Rattle.endless_schedules.specs.Stores.{first_store, job_index, storing_nodes, with_new}
+use Rattle.endless_schedules.specs.Times.{job_deadline}
+use Rattle.endless_schedules.specs.Unrolled.{job, job_message, jobs, jobs_reading, link_to, links_of, messages_of, readers, sent_of, store, stores, stores_reading, unrolled, unrolled_node}
 use Rattle.endless_schedules.specs.Worked.{late_pair, late_plan}
 use Rattle.endless_schedules.specs.Bounds.{with_age}
 use Rattle.evidence.proofs.model.ages.just_as_old_as_its_bound.Goals as goal

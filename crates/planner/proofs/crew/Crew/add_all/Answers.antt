@@ -1,8 +1,8 @@
 use Rattle.std.proofs.Common.{arith, ◌∷◌, [], List, sym, ap, subst, ◌∙◌}
 use Rattle.std.proofs.lemmas.List.{map-append}
 use Rattle.std.proofs.lemmas.List.Sums.{sum_by_push}
-use Rattle.begun_search.specs.hand.Hand.{Hand}
-use Rattle.begun_search.specs.job.Job.{Job}
+use Rattle.search_workers.specs.hand.Hand.{Hand}
+use Rattle.search_workers.specs.declared.job.Job.{Job}
 use Rattle.planner.specs.Crew.{Gathers, budget_of, hands_of}
 use Rattle.planner.proofs.Reports.{last_report, last_is, no_jobs}
 use Rattle.planner.proofs.crew.Crew.add_all.Goals as goal

@@ -2,9 +2,9 @@ use Rattle.std.proofs.Common.{ℕ, ◌+◌, ◌≤◌, List, [], length}
 use Rattle.std.specs.Prelude.{All}
 use Rattle.ttp_model.specs.Rules.{IsInstance}
 use Rattle.incumbent.specs.Watch.{IsOpening}
-use Rattle.begun_search.specs.aims.Aims.{Aims}
-use Rattle.begun_search.specs.job.Job.{Job}
-use Rattle.begun_search.specs.Searching.{IsFound}
+use Rattle.search_workers.specs.declared.aims.Aims.{Aims}
+use Rattle.search_workers.specs.declared.job.Job.{Job}
+use Rattle.search_workers.specs.Searching.{IsFound}
 use Rattle.planner.specs.Crew.{AreReportsOf, Gathers, IsJob, IsNoLater, budget_of, hands_of}
 use Rattle.planner.proofs.crew.Crew.add_all.Given as goal
 

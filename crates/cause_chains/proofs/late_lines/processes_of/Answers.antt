@@ -1,8 +1,0 @@
-use Rattle.sentences.proofs.Listing.{next_more}
-use Rattle.cause_chains.specs.LateLines.{IsLateProcess}
-use Rattle.cause_chains.proofs.late_lines.processes_of.Goals as goal
-
-pub loop-part-preserved : goal.loop-part-preserved
-loop-part-preserved c =
-    next_more (IsLateProcess c.args.instance.now) c.args.parts.now c.loop-part.part-index _ c.loop-part.told.items c.push.new.self.items
-    c.late_process.result c.loop-part-test.true c.loop-part.invariant c.late_process.ensures c.in_ok-push.ensures.items

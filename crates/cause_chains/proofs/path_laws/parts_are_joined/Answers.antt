@@ -1,8 +1,0 @@
-use Rattle.std.proofs.Common.{Some}
-use Rattle.cause_chains.proofs.PathLeading.{joined, neighbours}
-use Rattle.cause_chains.proofs.path_laws.parts_are_joined.Goals as goal
-
-pub returns : goal.returns
-returns c = λ i later earlier part before chain.
-    let two = neighbours i chain.ends later (Some chain.last) part before earlier chain.leads_back in
-    joined i chain.ends part before two.0 two.1 two.2

@@ -1,6 +1,0 @@
-use Rattle.std.proofs.Common.{Some}
-use Rattle.cause_chains.proofs.PathShort.{short}
-use Rattle.cause_chains.proofs.path_laws.path_chains_are_short.Goals as goal
-
-pub returns : goal.returns
-returns c = λ i parts w chain. short i chain.ends w (Some chain.last) parts chain.leads_back

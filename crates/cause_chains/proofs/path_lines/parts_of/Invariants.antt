@@ -1,7 +1,0 @@
-use Rattle.std.proofs.Common.{take}
-use Rattle.sentences.specs.Lists.{AreTold}
-use Rattle.cause_chains.specs.PathLines.{IsPathPart}
-use Rattle.cause_chains.proofs.path_lines.parts_of.Given as goal
-
-abbrev pub invariant-loop-part : goal.invariant-loop-part
-invariant-loop-part l = AreTold (IsPathPart l.instance) (take l.part-index l.parts) l.told.items

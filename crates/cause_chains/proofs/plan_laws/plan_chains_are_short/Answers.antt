@@ -1,7 +1,0 @@
-use Rattle.std.proofs.Common.{Some}
-use Rattle.cause_chains.specs.declared.plan_links.Subject.TheVariants.{Process}
-use Rattle.cause_chains.proofs.PlanShort.{short}
-use Rattle.cause_chains.proofs.plan_laws.plan_chains_are_short.Goals as goal
-
-pub returns : goal.returns
-returns c = λ i plan links w v chain. short i plan w v (Some (Process chain.last)) links chain.leads_back

@@ -1,8 +1,0 @@
-use Rattle.sentences.proofs.Listing.{next_more}
-use Rattle.cause_chains.specs.PlanLines.{IsLineOf}
-use Rattle.cause_chains.proofs.plan_lines.lines_of.Goals as goal
-
-pub loop-link-preserved : goal.loop-link-preserved
-loop-link-preserved c =
-    next_more (IsLineOf c.args.instance.now c.args.plan.now) c.args.links.now c.loop-link.link-index _ c.loop-link.lines.items c.push.new.self.items
-    c.line_of.result c.loop-link-test.true c.loop-link.invariant c.line_of.ensures c.in_ok-push.ensures.items

@@ -1,2 +1,0 @@
-pub mod LeastAges
-pub mod Halving

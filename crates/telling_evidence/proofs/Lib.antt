@@ -1,5 +1,0 @@
-mod ChainLines
-mod Refused
-mod StepLines
-mod TextFaults
-mod TreeLines

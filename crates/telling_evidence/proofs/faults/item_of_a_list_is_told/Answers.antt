@@ -1,6 +1,0 @@
-use Rattle.std.proofs.lemmas.Result.{IfOk-weaker}
-use Rattle.telling_evidence.proofs.TextFaults.{wrong_item}
-use Rattle.telling_evidence.proofs.faults.item_of_a_list_is_told.Goals as goal
-
-pub returns : goal.returns
-returns c top = IfOk-weaker c.text_reason.result _ _ (λ told is. wrong_item _ told top is) c.text_reason.ensures

@@ -1,6 +1,0 @@
-use Rattle.std.proofs.lemmas.Result.{IfOk-weaker}
-use Rattle.telling_evidence.proofs.TextFaults.{odd_key}
-use Rattle.telling_evidence.proofs.faults.key_that_is_odd_is_told.Goals as goal
-
-pub returns : goal.returns
-returns c d e top = IfOk-weaker c.text_reason.result _ _ (λ told is. odd_key _ told d e top is) c.text_reason.ensures

@@ -1,6 +1,0 @@
-use Rattle.std.proofs.lemmas.Result.{IfOk-weaker}
-use Rattle.telling_evidence.proofs.TextFaults.{no_node}
-use Rattle.telling_evidence.proofs.faults.node_of_a_process_is_told.Goals as goal
-
-pub returns : goal.returns
-returns c top = IfOk-weaker c.text_reason.result _ _ (λ told is. no_node _ told top is) c.text_reason.ensures

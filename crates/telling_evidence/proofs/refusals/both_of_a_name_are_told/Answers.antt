@@ -1,6 +1,0 @@
-use Rattle.std.proofs.lemmas.Result.{IfOk-weaker}
-use Rattle.telling_evidence.proofs.Refused.{both_told}
-use Rattle.telling_evidence.proofs.refusals.both_of_a_name_are_told.Goals as goal
-
-pub returns : goal.returns
-returns c = IfOk-weaker c.rule_reason.result _ _ (λ told is. both_told _ told is) c.rule_reason.ensures

@@ -1,7 +1,0 @@
-use Rattle.std.proofs.lemmas.Result.{IfOk-weaker}
-use Rattle.telling_evidence.proofs.StepLines.{last_start}
-use Rattle.telling_evidence.proofs.steps.latest_start_leaves_time.Goals as goal
-
--- the callee's value has it
-pub returns : goal.returns
-returns c = IfOk-weaker c.told_step.result _ _ (λ x told. last_start _ _ _ _ _ _ x told) c.told_step.ensures.told

@@ -1,7 +1,0 @@
-use Rattle.std.proofs.lemmas.Result.{IfOk-weaker}
-use Rattle.telling_evidence.proofs.StepLines.{both_times}
-use Rattle.telling_evidence.proofs.steps.what_was_known_is_told.Goals as goal
-
--- the callee's value has them
-pub returns : goal.returns
-returns c = IfOk-weaker c.told_step.result _ _ (λ x told. both_times _ _ _ _ _ _ x told) c.told_step.ensures.told

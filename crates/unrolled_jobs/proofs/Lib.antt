@@ -1,8 +1,0 @@
-pub mod Lists
-pub mod Counts
-pub mod TooMany
-pub mod Aged
-pub mod Nodes
-pub mod Pieces
-pub mod Found
-pub mod Waits

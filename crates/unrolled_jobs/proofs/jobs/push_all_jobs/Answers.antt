@@ -1,6 +1,0 @@
-use Rattle.unrolled_jobs.specs.Unrolled.{jobs}
-use Rattle.unrolled_jobs.proofs.Lists.{pieces_more}
-use Rattle.unrolled_jobs.proofs.jobs.push_all_jobs.Goals as goal
-
-pub loop-p-preserved : goal.loop-p-preserved
-loop-p-preserved c = rw (c.in_ok-push_jobs.ensures, c.loop-p.invariant) (pieces_more _ (jobs c.args.rates.now) c.loop-p.p)

@@ -1,7 +1,0 @@
-use Rattle.std.proofs.Common.{◌≡◌, ◌++◌}
-use Rattle.std.specs.List.{flat_map, range_with_len}
-use Rattle.unrolled_jobs.specs.Unrolled.{jobs}
-use Rattle.unrolled_jobs.proofs.jobs.push_all_jobs.Given as goal
-
-abbrev pub invariant-loop-p : goal.invariant-loop-p
-invariant-loop-p l = l.list.items ≡ l.initial.list.items ++ flat_map (jobs l.rates) (range_with_len 0 l.p)

@@ -1,7 +1,0 @@
-use Rattle.std.proofs.Common.{◌≡◌, ◌++◌, map}
-use Rattle.std.specs.List.{range_with_len}
-use Rattle.unrolled_jobs.specs.Unrolled.{job}
-use Rattle.unrolled_jobs.proofs.jobs.push_jobs.Given as goal
-
-abbrev pub invariant-loop-k : goal.invariant-loop-k
-invariant-loop-k l = l.list.items ≡ l.initial.list.items ++ map (job l.rates l.p) (range_with_len 0 l.k)

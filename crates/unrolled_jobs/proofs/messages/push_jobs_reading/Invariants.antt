@@ -1,8 +1,0 @@
-use Rattle.std.proofs.Common.{◌≡◌, ◌++◌, map, filter}
-use Rattle.std.specs.List.{range_with_len}
-use Rattle.rates_model.specs.Reads.{reads_now}
-use Rattle.unrolled_jobs.specs.Stores.{job_index}
-use Rattle.unrolled_jobs.proofs.messages.push_jobs_reading.Given as goal
-
-abbrev pub invariant-loop-j : goal.invariant-loop-j
-invariant-loop-j l = l.list.items ≡ l.initial.list.items ++ map (job_index l.rates l.q) (filter (reads_now l.rates l.message.sender l.q l.message.delay l.k) (range_with_len 0 l.j))

@@ -1,7 +1,0 @@
-use Rattle.std.proofs.Common.{◌≡◌, ◌+◌, ◌++◌, map}
-use Rattle.std.specs.List.{range_with_len}
-use Rattle.unrolled_jobs.specs.Stores.{first_store}
-use Rattle.unrolled_jobs.proofs.messages.push_stores_reading.Given as goal
-
-abbrev pub invariant-loop-place : goal.invariant-loop-place
-invariant-loop-place l = l.list.items ≡ l.initial.list.items ++ map (λ place. first_store l.rates l.m + place) (range_with_len 0 l.place)

@@ -1,7 +1,0 @@
-use Rattle.std.proofs.Common.{◌≡◌, ◌++◌, take}
-use Rattle.std.specs.List.{flat_map}
-use Rattle.unrolled_jobs.specs.Unrolled.{stores}
-use Rattle.unrolled_jobs.proofs.stores.push_all_stores.Given as goal
-
-abbrev pub invariant-loop-m : goal.invariant-loop-m
-invariant-loop-m l = l.list.items ≡ l.initial.list.items ++ flat_map (stores l.rates) (take l.m l.rates.messages)

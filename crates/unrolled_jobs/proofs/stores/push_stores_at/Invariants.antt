@@ -1,6 +1,0 @@
-use Rattle.std.proofs.Common.{◌≡◌, ◌++◌, map, take}
-use Rattle.unrolled_jobs.specs.Unrolled.{store}
-use Rattle.unrolled_jobs.proofs.stores.push_stores_at.Given as goal
-
-abbrev pub invariant-loop-node : goal.invariant-loop-node
-invariant-loop-node l = l.list.items ≡ l.initial.list.items ++ map (store l.rates l.message) (take l.node-index l.nodes)

@@ -1,7 +1,0 @@
-use Rattle.std.proofs.Common.{◌≡◌, ◌<◌, All, length, map, take}
-use Rattle.rates_model.specs.Rates.{node_of}
-use Rattle.unrolled_jobs.specs.Stores.{each_once}
-use Rattle.unrolled_jobs.proofs.stores.receiving_nodes.Given as goal
-
-abbrev pub invariant-loop-receiver : goal.invariant-loop-receiver
-invariant-loop-receiver l = (l.nodes.items ≡ each_once (map (node_of l.rates) (take l.receiver-index l.receivers))) × All (λ n. n < length l.rates.nodes) l.nodes.items
