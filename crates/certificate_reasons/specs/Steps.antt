@@ -5,7 +5,7 @@ use Rattle.ttp_model.specs.declared.step.Step.TheVariants.{EsRelease, EsLink, Es
 use Rattle.ttp_model.specs.Instance.{Instance}
 use Rattle.tt_choice.specs.Choice.{Choice}
 use Rattle.sought_plans.specs.Known.{Known}
-use Rattle.step_reads.specs.Targets.{known_value, target}
+use Rattle.tt_infer.specs.Targets.{known_value, target}
 use Rattle.certificate_reasons.specs.declared.closers.CloserReason.{CloserReason}
 use Rattle.certificate_reasons.specs.declared.dominance.DominanceReason.{DominanceReason}
 use Rattle.certificate_reasons.specs.declared.ends.LatestEnd.{LatestEnd}

@@ -18,8 +18,7 @@ use crate::starts::{
 };
 use std::alloc::Global;
 use std::fmt;
-use step_reads::value;
-use tt_infer::{Facts, target};
+use tt_infer::{Facts, target, value};
 use ttp_model::{MemoryFault, Step};
 
 /// Why a step concludes what it does.

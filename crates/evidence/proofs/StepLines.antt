@@ -10,7 +10,7 @@ use Rattle.sought_plans.specs.Known.{Known, es_of, le_of}
 use Rattle.sought_plans.specs.Premises.{wcet_of}
 use Rattle.tt_infer.specs.declared.fact.Fact.{Fact}
 use Rattle.tt_infer.specs.declared.fact.Fact.TheVariants.{Start}
-use Rattle.step_reads.specs.Targets.{known_value, target}
+use Rattle.tt_infer.specs.Targets.{known_value, target}
 use Rattle.certificate_reasons.specs.declared.conclusions.Conclusion.{Conclusion}
 use Rattle.certificate_reasons.specs.declared.conclusions.Conclusion.TheVariants.{StartsFrom}
 use Rattle.certificate_reasons.specs.declared.ends.LatestEnd.TheVariants.{Link}

@@ -7,7 +7,7 @@ ghost use Rattle.step_logs.specs.Leaves.{ClosesSharply};
 
 use crate::propagation::propagate;
 use crate::reached::Reached;
-use longest_chains::path_bound;
+use plan_facts::path_bound;
 use std::alloc::Global;
 use step_logs::{Agenda, Facts, Journal, closed_leaf};
 use tt_choice::Choice;

@@ -6,7 +6,7 @@ mod propagation;
 mod reached;
 
 pub use goals::{best_goal, leaf_by};
-pub use longest_chains::path_bound;
+pub use plan_facts::path_bound;
 pub use propagation::propagate;
 pub use reached::Reached;
 pub use step_logs::{Agenda, Facts, Propagator, Supposition, closed_leaf};

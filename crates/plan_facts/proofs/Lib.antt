@@ -1,3 +1,4 @@
+pub mod Walks
 pub mod Starting
 pub mod Rooms
 pub mod Listed

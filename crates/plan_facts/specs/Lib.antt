@@ -1,3 +1,5 @@
+pub mod Longest
+pub mod Walks
 pub mod Messages
 pub mod Earliest
 pub mod Frames

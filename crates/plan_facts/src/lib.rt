@@ -2,12 +2,14 @@
 //! lies in its frames, and by when its processes have to end.
 #![tactic(auto)]
 
+mod chains;
 mod ends;
 mod frames;
 mod messages;
 mod rounds;
 mod starts;
 
+pub use chains::{least_transfer, longest_chains, path_bound};
 pub use ends::{late_by, must_end_by};
 pub use frames::{load_on, messages_on};
 pub use messages::{arrival, first_in_time, ready_at};

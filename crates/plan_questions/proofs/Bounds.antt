@@ -7,8 +7,8 @@ use Rattle.ttp_model.specs.Instance.{Instance}
 use Rattle.ttp_model.specs.Rules.{IsInstance}
 use Rattle.ttp_model.specs.Chains.{one}
 use Rattle.ttp_model.proofs.PlanNumbers.{chain-le}
-use Rattle.longest_chains.specs.Longest.{AreLongest}
-use Rattle.longest_chains.proofs.Walks.{chain_small}
+use Rattle.plan_facts.specs.Longest.{AreLongest}
+use Rattle.plan_facts.proofs.Walks.{chain_small}
 use Rattle.instance_variants.specs.Cut.{CanEndBy}
 use Rattle.instance_variants.specs.Ends.{AreThere, IsLowerEnd, last_end}
 use Rattle.instance_variants.proofs.CutPlans.{end_by_of_cut, valid_cut, valid_of_cut}

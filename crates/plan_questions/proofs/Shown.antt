@@ -4,9 +4,9 @@ use Rattle.ttp_model.specs.Instance.{Instance}
 use Rattle.ttp_model.specs.Rules.{IsInstance}
 use Rattle.certificate.specs.Versions.{answer_version}
 use Rattle.certificate.specs.Cert.{Cert}
-use Rattle.dropped_decisions.specs.Proofs.{Proves}
-use Rattle.dropped_decisions.specs.Branches.{branches}
-use Rattle.dropped_decisions.proofs.Bounds.{proved_none}
+use Rattle.tree_check.specs.Proofs.{Proves}
+use Rattle.used_decisions.specs.Branches.{branches}
+use Rattle.tree_check.proofs.Bounds.{proved_none}
 use Rattle.planner.specs.outcome.Options.{Options}
 use Rattle.plan_questions.specs.Searches.{IsShown}
 

@@ -6,8 +6,8 @@ use Rattle.ttp_model.specs.Instance.{Instance, process_at, node_of}
 use Rattle.ttp_model.specs.Rules.{IsInstance}
 use Rattle.ttp_model.specs.Chains.{ChainEnds, one, by_link, by_message, least_transfer}
 use Rattle.ttp_model.proofs.Walks.{chain_inside, to_chain}
-use Rattle.longest_chains.specs.Longest.{AreLongest}
-use Rattle.longest_chains.proofs.Walks.{bound_found}
+use Rattle.plan_facts.specs.Longest.{AreLongest}
+use Rattle.plan_facts.proofs.Walks.{bound_found}
 use Rattle.plan_reasons.specs.PlanCauses.{Finds}
 use Rattle.plan_reasons.specs.PathChains.{EndsLast, LinkHolds, MessageHolds}
 

@@ -10,7 +10,7 @@ use Rattle.ttp_model.specs.Delays.{HasNoPlan}
 use Rattle.ttp_model.specs.Plans.{IsValid}
 use Rattle.ttp_model.specs.Rules.{IsInstance}
 use Rattle.ttp_model.proofs.PlanNumbers.{chain-le}
-use Rattle.longest_chains.specs.Longest.{AreLongest}
+use Rattle.plan_facts.specs.Longest.{AreLongest}
 use Rattle.plan_facts.specs.Ends.{must_end_by}
 use Rattle.plan_reasons.specs.declared.runs.StartCause.{StartCause}
 use Rattle.plan_reasons.specs.declared.runs.StartCause.TheVariants.{Arrival, Behind, CouldStart, Link, Release}

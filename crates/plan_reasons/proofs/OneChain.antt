@@ -4,7 +4,7 @@ use Rattle.std.proofs.lemmas.Bool.{cases_lt}
 use Rattle.std.proofs.lemmas.List.{ext_get_or}
 use Rattle.ttp_model.specs.Instance.{Instance, process_at}
 use Rattle.ttp_model.specs.Chains.{IsPathBound}
-use Rattle.longest_chains.specs.Longest.{AreLongest}
+use Rattle.plan_facts.specs.Longest.{AreLongest}
 use Rattle.plan_reasons.specs.PlanCauses.{IsFirst}
 use Rattle.plan_reasons.specs.declared.runs.StartCause.{StartCause}
 use Rattle.plan_reasons.specs.declared.runs.StartCause.TheVariants.{Arrival, Behind, CouldStart, Link, Release}

@@ -1,7 +1,7 @@
 -- What is told of those that end too late whatever the plan. Own profile.
 use Rattle.std.specs.Prelude.{◌≡◌, ℕ, ◌+◌, ◌<◌, List}
 use Rattle.ttp_model.specs.Instance.{Instance}
-use Rattle.longest_chains.specs.Longest.{AreLongest}
+use Rattle.plan_facts.specs.Longest.{AreLongest}
 use Rattle.plan_reasons.specs.Runs.{IsRunLine}
 use Rattle.plan_facts.specs.Ends.{must_end_by}
 use Rattle.plan_reasons.specs.Limits.{IsLimit}

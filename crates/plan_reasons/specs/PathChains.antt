@@ -2,7 +2,7 @@
 use Rattle.std.specs.Prelude.{◌≡◌, ◌≢◌, ℕ, ◌+◌, ◌<◌, Contains, List, [], ◌∷◌, Option, None, Some, length, slice_index}
 use Rattle.ttp_model.specs.Instance.{Instance, link_at, message_at, process_at, source_of}
 use Rattle.ttp_model.specs.Chains.{IsPathBound, least_transfer}
-use Rattle.longest_chains.specs.Longest.{AreLongest}
+use Rattle.plan_facts.specs.Longest.{AreLongest}
 use Rattle.plan_reasons.specs.PlanCauses.{Finds, IsFirst}
 use Rattle.plan_reasons.specs.declared.runs.StartCause.{StartCause}
 use Rattle.plan_reasons.specs.declared.runs.StartCause.TheVariants.{Arrival, Behind, CouldStart, Link, Release}

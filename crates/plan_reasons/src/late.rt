@@ -2,7 +2,7 @@
 
 ghost use Rattle.std.specs.Prelude.{◌≡◌, ◌++◌, ◌+◌, ◌^◌, ◌<◌, All, IfOk, OnOk, length};
 ghost use Rattle.std.specs.List.{flat_map, range_with_len};
-ghost use Rattle.longest_chains.specs.Longest.{AreLongest};
+ghost use Rattle.plan_facts.specs.Longest.{AreLongest};
 ghost use Rattle.plan_reasons.specs.Late.{arrived_late, late_part, late_parts, linked_late, receivers_late, released_late};
 ghost use Rattle.plan_reasons.specs.PathThere.{IsPartThere};
 ghost use Rattle.plan_reasons.specs.Runs.{HasCause};

@@ -3,12 +3,12 @@
 ghost use Rattle.std.specs.Prelude.{◌≡◌, ◌+◌, ◌^◌, ◌<◌, ◌↔◌, Contains, IsTrue, length, slice_index};
 ghost use Rattle.ttp_model.specs.Instance.{message_at, process_at, source_of};
 ghost use Rattle.ttp_model.specs.Chains.{least_transfer};
-ghost use Rattle.longest_chains.specs.Longest.{AreLongest};
+ghost use Rattle.plan_facts.specs.Longest.{AreLongest};
 ghost use Rattle.plan_reasons.specs.PlanCauses.{Finds};
 ghost use Rattle.plan_reasons.specs.PathChains.{IsCause, LinkHolds, MessageHolds};
 
 use crate::runs::StartCause;
-use longest_chains::least_transfer;
+use plan_facts::least_transfer;
 use ttp_model::Instance;
 
 /// What holds process `p` back, which begins at this tick where its longest chain ends.

@@ -5,7 +5,7 @@ ghost use Rattle.ttp_model.specs.Instance.{Instance};
 ghost use Rattle.ttp_model.specs.Rules.{IsInstance};
 ghost use Rattle.ttp_model.specs.Chains.{IsPathBound};
 ghost use Rattle.ttp_model.specs.Delays.{HasNoPlan};
-ghost use Rattle.longest_chains.specs.Longest.{AreLongest};
+ghost use Rattle.plan_facts.specs.Longest.{AreLongest};
 ghost use Rattle.plan_reasons.specs.declared.path_parts.ChainPart.{ChainPart};
 ghost use Rattle.plan_reasons.specs.PathChains.{AreJoined, BeginsAtRelease, IsChain};
 ghost use Rattle.plan_reasons.specs.Late.{late_parts};

@@ -8,7 +8,7 @@ ghost use Rattle.plan_reasons.specs.PathThere.{IsPartThere};
 
 use crate::path_parts::{ChainPart, path_parts_of};
 use crate::runs::{RunLine, StartCause, run_line};
-use longest_chains::least_transfer;
+use plan_facts::least_transfer;
 use sentences::Word::{Number, Text, Ticks};
 use sentences::{Member, long_number_if_any, tell, write_members, write_members_and};
 use serde::{Described, Serialize, Serializer};

@@ -1,13 +1,13 @@
 //! Which chain of links and messages makes the path bound?
 
 ghost use Rattle.std.specs.Prelude.{◌≡◌, ◌<◌, [], IfOk, IfSome, OnOk, length};
-ghost use Rattle.longest_chains.specs.Longest.{AreLongest};
+ghost use Rattle.plan_facts.specs.Longest.{AreLongest};
 ghost use Rattle.plan_reasons.specs.PathChains.{EndsLast, IsChain, IsPart, held_by};
 ghost use Rattle.plan_reasons.specs.Runs.{HasCause};
 
 use crate::path_causes::cause_of;
 use crate::runs::StartCause;
-use longest_chains::longest_chains;
+use plan_facts::longest_chains;
 use std::alloc::Global;
 use ttp_model::{Instance, MemoryFault};
 

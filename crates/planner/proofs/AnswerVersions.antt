@@ -10,11 +10,11 @@ use Rattle.certificate.specs.Cert.{Cert}
 use Rattle.certificate.specs.Trees.{preorder}
 use Rattle.planner.specs.Begun.{is_open}
 use Rattle.search_workers.specs.Ends.{IsAnswerOf}
-use Rattle.dropped_decisions.specs.Proofs.{Proves}
+use Rattle.tree_check.specs.Proofs.{Proves}
 use Rattle.search_workers.specs.Searching.{aim_of}
 use Rattle.planner.specs.declared.parts.Portion.{Portion}
 use Rattle.search_workers.specs.declared.found.FoundPlan.{FoundPlan}
-use Rattle.dropped_decisions.proofs.OneChannel.{answer_version_allows}
+use Rattle.tree_check.proofs.OneChannel.{answer_version_allows}
 use Rattle.search_workers.specs.declared.outcome.Options.{Options}
 use Rattle.search_workers.specs.declared.outcome.Outcome.{Outcome}
 use Rattle.search_workers.specs.declared.outcome.Outcome.TheVariants.{Optimal, Infeasible, Stopped}

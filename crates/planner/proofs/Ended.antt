@@ -12,7 +12,7 @@ use Rattle.certificate.specs.declared.node.Node.TheVariants as node
 use Rattle.certificate.specs.Trees.{Trees, none, grow, preorder}
 use Rattle.certificate.specs.Cert.{Cert}
 use Rattle.certificate.specs.Versions.{answer_version}
-use Rattle.dropped_decisions.specs.Proofs.{choices_below, Suits, AreProofs, Proves}
+use Rattle.tree_check.specs.Proofs.{choices_below, Suits, AreProofs, Proves}
 use Rattle.search_workers.specs.Gathering.{HasGoal}
 use Rattle.search_workers.specs.declared.aims.Aims.{Aims}
 use Rattle.search_workers.proofs.Goals.{goal_near, goal_past}
@@ -24,7 +24,7 @@ use Rattle.search_workers.specs.declared.outcome.Why.TheVariants.{Budget, Memory
 use Rattle.search_workers.specs.Searching.{aim_of, limit_of, IsFound}
 use Rattle.search_workers.specs.Ends.{IsAnswerOf, IsCauseTold, IsFar}
 use Rattle.search_workers.proofs.Searching.{aim_below, weaker_goal}
-use Rattle.dropped_decisions.specs.Branches.{branches}
+use Rattle.used_decisions.specs.Branches.{branches}
 use Rattle.planner.specs.Answers.{from_low, IsBestAbove, IsCause, IsOutcome}
 use Rattle.planner.specs.Searched.{AreAims, IsEndAnswer, IsEndTree, IsExhausted, IsLowest, IsReason, HasLeafAt}
 use Rattle.planner.proofs.Searched.{limit_small}

@@ -12,11 +12,11 @@ use Rattle.certificate.specs.Cert.{Cert}
 use Rattle.certificate.specs.Trees.{preorder}
 use Rattle.search_workers.specs.Account.{IsWholeTree}
 use Rattle.planner.specs.Begun.{nodes_of}
-use Rattle.dropped_decisions.specs.Branches.{branches}
+use Rattle.used_decisions.specs.Branches.{branches}
 use Rattle.search_workers.specs.Ends.{IsAnswerOf, IsFar}
 use Rattle.search_workers.specs.Gathering.{AreShallow, HasGoal, HaveGoals, IsGathered}
 use Rattle.search_workers.specs.Pieces.{AreRight}
-use Rattle.dropped_decisions.specs.Proofs.{Proves}
+use Rattle.tree_check.specs.Proofs.{Proves}
 use Rattle.search_workers.specs.Searching.{aim_of, limit_of, IsFound, IsSearching, IsWorkedOut}
 use Rattle.search_workers.specs.Task.{Task, root_task}
 use Rattle.search_workers.specs.Trees.{IsTreeOf}

@@ -10,7 +10,7 @@ use Rattle.search_workers.specs.declared.found.FoundPlan.{FoundPlan}
 use Rattle.search_workers.specs.declared.outcome.Options.{Options}
 use Rattle.search_workers.specs.declared.outcome.Outcome.{Outcome}
 use Rattle.search_workers.specs.declared.outcome.Outcome.TheVariants.{Optimal, Infeasible, Stopped}
-use Rattle.dropped_decisions.proofs.Bounds.{proved_bound, proved_least, proved_none}
+use Rattle.tree_check.proofs.Bounds.{proved_bound, proved_least, proved_none}
 use Rattle.planner.specs.Answers.{stated, IsBestAbove, IsOutcome, Shows}
 use Rattle.planner.specs.Onward.{IsProved}
 use Rattle.planner.specs.PartAnswers.{IsPartOutcome, IsPartStopped}

@@ -6,13 +6,13 @@ use Rattle.tt_choice.specs.Branches.{root_choice}
 use Rattle.certificate.specs.Cert.{Cert}
 use Rattle.certificate.specs.Trees.{preorder}
 use Rattle.search_workers.specs.Ends.{IsAnswerOf}
-use Rattle.dropped_decisions.specs.Proofs.{Proves}
+use Rattle.tree_check.specs.Proofs.{Proves}
 use Rattle.search_workers.specs.Searching.{limit_of, IsFound}
 use Rattle.search_workers.specs.declared.found.FoundPlan.{FoundPlan}
 use Rattle.search_workers.specs.declared.outcome.Outcome.{Outcome}
 use Rattle.search_workers.specs.declared.outcome.Outcome.TheVariants.{Optimal, Infeasible, Stopped}
 use Rattle.search_workers.specs.declared.outcome.Why.{Why}
-use Rattle.dropped_decisions.proofs.Bounds.{proved_bound}
+use Rattle.tree_check.proofs.Bounds.{proved_bound}
 use Rattle.side_by_side.specs.Bounds.{IsGreatestBound}
 use Rattle.side_by_side.specs.Joined.{certificate_at, IsJoinedTree}
 use Rattle.side_by_side.proofs.Proving.{joined_bound}

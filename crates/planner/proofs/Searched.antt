@@ -17,14 +17,14 @@ use Rattle.certificate.specs.declared.node.Node.{Node}
 use Rattle.certificate.specs.declared.node.Node.TheVariants as node
 use Rattle.certificate.specs.Trees.{Trees, preorder}
 use Rattle.certificate.specs.Cert.{Cert}
-use Rattle.dropped_decisions.specs.Proofs.{Proves}
+use Rattle.tree_check.specs.Proofs.{Proves}
 use Rattle.search_workers.specs.piece.Piece.{Piece}
 use Rattle.search_workers.specs.declared.outcome.Options.{Options}
 use Rattle.search_workers.specs.declared.outcome.Why.{Why}
 use Rattle.search_workers.specs.declared.outcome.Why.TheVariants.{Budget, Memory, CalledOff, Gap, Part}
 use Rattle.search_workers.specs.Trees.{IsTreeOf, pieces_of}
 use Rattle.search_workers.specs.Gathering.{HasGoal, HaveGoals, IsGathered, IsLeafPiece}
-use Rattle.dropped_decisions.specs.Branches.{is_branch, branches}
+use Rattle.used_decisions.specs.Branches.{is_branch, branches}
 use Rattle.planner.specs.Answers.{is_closed_at, worked_at, worked_goal, in_answer}
 use Rattle.search_workers.specs.Searching.{aim_of, limit_of, IsFound, IsWorkedOut}
 use Rattle.planner.specs.Searched.{AreAims, IsClosedLeaf, IsEndTree, IsReason, IsSearched}

@@ -13,8 +13,8 @@ use Rattle.tt_infer.specs.Leaves.{LeadSharply}
 use Rattle.tt_infer.proofs.Determined.{IsLawful-determined}
 use Rattle.tt_infer.proofs.Rows.{target_is}
 use Rattle.tt_infer.proofs.Sound.{step_is_about}
-use Rattle.step_reads.specs.Targets.{target, known_value}
-use Rattle.step_reads.proofs.Targets.{stays}
+use Rattle.tt_infer.specs.Targets.{target, known_value}
+use Rattle.tt_infer.proofs.Targets.{stays}
 use Rattle.planner.specs.Sharp.{IsNext, LeadsToEnd}
 
 pub only_next : (s : Facts) (step : Step) (g h : Known) → IsLawful s.instance s.choice s.goal s.known step h → IsNext s step g → h ≡ g

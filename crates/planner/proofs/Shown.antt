@@ -4,7 +4,7 @@ use Rattle.search_workers.specs.declared.found.FoundPlan.{FoundPlan}
 use Rattle.ttp_model.specs.Instance.{Instance}
 use Rattle.ttp_model.specs.Rules.{IsInstance}
 use Rattle.ttp_model.specs.Delays.{IsLeastDelay, IsLowerBound}
-use Rattle.dropped_decisions.proofs.Bounds.{proved_bound, proved_none, proved_least}
+use Rattle.tree_check.proofs.Bounds.{proved_bound, proved_none, proved_least}
 use Rattle.search_workers.specs.declared.outcome.Options.{Options}
 use Rattle.search_workers.specs.declared.outcome.Outcome.{Outcome}
 use Rattle.search_workers.specs.declared.outcome.Outcome.TheVariants.{Optimal, Infeasible, Stopped}

@@ -10,8 +10,8 @@ use Rattle.certificate.specs.declared.node.Node.TheVariants as node
 use Rattle.certificate.specs.Versions.{answer_version}
 use Rattle.certificate.specs.Trees.{Trees, preorder}
 use Rattle.certificate.specs.Cert.{Cert}
-use Rattle.dropped_decisions.specs.Proofs.{Proves}
-use Rattle.dropped_decisions.specs.Branches.{branches}
+use Rattle.tree_check.specs.Proofs.{Proves}
+use Rattle.used_decisions.specs.Branches.{branches}
 use Rattle.search_workers.specs.Best.{IsPlanFound}
 use Rattle.search_workers.specs.declared.found.FoundPlan.{FoundPlan}
 use Rattle.search_workers.specs.declared.outcome.Options.{Options}

@@ -9,7 +9,7 @@ pub mod Crew
 pub mod Held
 pub mod PartAnswers
 pub mod Onward
-pub use Rattle.dropped_decisions.specs.Proofs
+pub use Rattle.tree_check.specs.Proofs
 pub use Rattle.search_workers.specs.Ends
 pub use Rattle.search_workers.specs.Searching
 pub use Rattle.search_workers.specs.declared.found

@@ -19,7 +19,7 @@ use Rattle.search_workers.specs.declared.outcome.Options.{Options}
 use Rattle.search_workers.specs.declared.outcome.Outcome.{Outcome}
 use Rattle.search_workers.specs.declared.outcome.Outcome.TheVariants.{Optimal, Infeasible, Stopped}
 use Rattle.search_workers.specs.declared.outcome.SolveFault.TheVariants.{Memory}
-use Rattle.dropped_decisions.specs.Proofs.{Proves}
+use Rattle.tree_check.specs.Proofs.{Proves}
 use Rattle.search_workers.specs.declared.outcome.Why.{Why}
 use Rattle.side_by_side.specs.Joined.{IsJoinedTree}
 use Rattle.planner.specs.Answers.{best_of, cert_of, IsOutcome}

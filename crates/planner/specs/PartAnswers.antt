@@ -6,9 +6,9 @@ use Rattle.certificate.specs.Trees.{preorder}
 use Rattle.certificate.specs.Cert.{Cert}
 use Rattle.certificate.specs.Versions.{answer_version}
 use Rattle.planner.specs.Begun.{AreLeavesOf}
-use Rattle.dropped_decisions.specs.Branches.{branches}
+use Rattle.used_decisions.specs.Branches.{branches}
 use Rattle.search_workers.specs.Ends.{IsFar}
-use Rattle.dropped_decisions.specs.Proofs.{Proves}
+use Rattle.tree_check.specs.Proofs.{Proves}
 use Rattle.search_workers.specs.Searching.{limit_of, IsSearching, IsWorkedOut, SearchGoesOn}
 use Rattle.search_workers.specs.Task.{Task}
 use Rattle.search_workers.specs.declared.aims.Aims.{Aims}

@@ -8,8 +8,8 @@ use Rattle.certificate.specs.declared.node.Node.TheVariants as node
 use Rattle.certificate.specs.Trees.{preorder}
 use Rattle.certificate.specs.Cert.{Cert}
 use Rattle.certificate.specs.Versions.{answer_version}
-use Rattle.dropped_decisions.specs.Proofs.{Proves}
-use Rattle.dropped_decisions.specs.Branches.{branches}
+use Rattle.tree_check.specs.Proofs.{Proves}
+use Rattle.used_decisions.specs.Branches.{branches}
 use Rattle.search_workers.specs.piece.Piece.{Piece}
 use Rattle.search_workers.specs.Pieces.{AreRight}
 use Rattle.search_workers.specs.Account.{IsWholeTree}

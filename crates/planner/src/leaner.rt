@@ -9,10 +9,10 @@ ghost use Rattle.planner.specs.Searched.{AreAims, IsEndTree};
 ghost use Rattle.search_workers.specs.Searching.{IsFound};
 
 use certificate::{Cert, Version};
-use dropped_decisions::{Standing, proof_of, without_unused};
 use search_workers::{Course, Manner, Options, Outcome, Search, aim};
 use std::alloc::Global;
 use ttp_model::{Instance, MemoryFault};
+use used_decisions::{Standing, proof_of, without_unused};
 
 /// The pieces of a search, and the tasks that it left.
 fn standing(alloc: Global, search: &Search) -> Result<Vec<Standing>, MemoryFault> {

@@ -5,7 +5,7 @@ ghost use Rattle.ttp_model.specs.Delays.{delay};
 ghost use Rattle.ttp_model.specs.Plans.{IsValid};
 ghost use Rattle.certificate.specs.Cert.{Cert};
 ghost use Rattle.planner.specs.Begun.{nodes_of, IsBegun};
-ghost use Rattle.dropped_decisions.specs.Proofs.{Proves};
+ghost use Rattle.tree_check.specs.Proofs.{Proves};
 ghost use Rattle.planner.specs.Parts.{IsPortion};
 ghost use Rattle.search_workers.specs.Searching.{limit_of, IsFound, IsSearching, IsSomeSearch, SearchGoesOn};
 ghost use Rattle.search_workers.specs.declared.aims.Aims.{Aims};

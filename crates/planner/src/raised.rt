@@ -2,7 +2,7 @@
 
 ghost use Rattle.std.specs.Prelude.{◌≡◌, ◌≤◌, ◌⊎◌, ◌∷◌, [], IfOk};
 ghost use Rattle.certificate.specs.Versions.{answer_version};
-ghost use Rattle.dropped_decisions.specs.Proofs.{Proves};
+ghost use Rattle.tree_check.specs.Proofs.{Proves};
 ghost use Rattle.side_by_side.specs.Bounds.{IsGreatestBound};
 ghost use Rattle.side_by_side.specs.Joined.{IsJoinedTree};
 ghost use Rattle.planner.specs.Answers.{best_of, cert_of, IsCalledOff};
@@ -10,11 +10,11 @@ ghost use Rattle.planner.specs.Onward.{IsProved, IsRaised};
 
 use crate::end_tree::ended;
 use certificate::{Cert, Node};
-use dropped_decisions::copy_of_leaf;
 use search_workers::{Outcome, SolveFault};
 use side_by_side::join_all;
 use std::alloc::Global;
 use ttp_model::{Instance, MemoryFault};
+use used_decisions::copy_of_leaf;
 
 fn copy_of(alloc: Global, node: &Node) -> Result<Node, MemoryFault>
     ensures { IfOk result (λ copy. copy ≡ node.now) }

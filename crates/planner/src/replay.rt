@@ -20,11 +20,11 @@ use crate::begun::Begun;
 use crate::fault::BeginFault;
 use crate::sharp::sharp_leaf;
 use certificate::{Branch, Cert, MOST_BRANCHES_ABOVE, Node};
-use dropped_decisions::copy_of_leaf;
 use search_workers::{FoundPlan, Piece, Search, Task, child_tasks};
 use std::alloc::Global;
 use tt_choice::Choice;
 use ttp_model::{Instance, Kind, Leaf, MemoryFault};
+use used_decisions::copy_of_leaf;
 
 /// A certificate's tree as far as it was gone through.
 #[derive(Drop)]

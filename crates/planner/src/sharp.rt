@@ -8,9 +8,8 @@ ghost use Rattle.sought_plans.specs.Known.{Known};
 ghost use Rattle.planner.specs.Sharp.{IsNext, LeadsToEnd, LeadsSharplyToEnd};
 
 use std::alloc::Global;
-use step_reads::value;
 use tt_choice::Choice;
-use tt_infer::{Facts, target};
+use tt_infer::{Facts, target, value};
 use ttp_model::{Instance, Leaf, MemoryFault, Step, Steps};
 
 /// Takes a step, if it may be taken. Whether more is known after it.

@@ -1,9 +1,9 @@
 //! Which of the open leaves of a certificate needn't be worked?
 
 use certificate::{Cert, Node};
-use dropped_decisions::left_out;
 use std::alloc::Global;
 use ttp_model::{Instance, MemoryFault, has_flag};
+use used_decisions::left_out;
 
 /// A node that stays closed at this goal; none of a leaf that is open again.
 fn closed(node: &Node, aim: u32) -> Option<&Node> {

@@ -1,3 +1,4 @@
+mod AgeAnswers
 pub mod Told
 mod Lines
 mod Naming

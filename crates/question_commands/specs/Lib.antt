@@ -1,3 +1,8 @@
+pub mod AgeTelling
+pub mod AgeChains
+pub mod AgeTexts
+pub mod AgeAnswers
+pub mod AgeEndings
 pub mod Words
 pub mod Answers
 pub mod Telling

@@ -1,6 +1,13 @@
 //! The commands that ask several searches: why an instance has no plan, how early processes can end, and how much longer they may run.
 #![tactic(auto)]
 
+mod age_answer;
+mod age_ending;
+mod age_naming;
+mod age_objects;
+mod age_reporting;
+mod age_texts;
+mod ages;
 mod answer;
 mod certificates;
 mod limit_texts;
@@ -16,7 +23,11 @@ mod why;
 mod why_texts;
 mod words;
 
-pub use json_answers::{LIMIT, MARGIN, WHY};
+pub use age_ending::{AgeEnd, age_status};
+pub use age_objects::{age_json, tell_age};
+pub use age_reporting::report_age;
+pub use ages::age_run;
+pub use json_answers::{AGE, LIMIT, MARGIN, WHY};
 pub use limit_texts::Beside;
 pub use limits::limit_run;
 pub use margins::{Terms, margin_run};

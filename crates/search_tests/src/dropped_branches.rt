@@ -3,13 +3,13 @@
 
 use crate::texts::FIRST;
 use certificate::read;
-use dropped_decisions::{Standing, proof_of, without_unused};
 use instance_text::read as read_instance;
 use search_trees::Name;
 use std::alloc::Global;
 use std::test::Fail;
 use tree_check::check;
 use ttp_model::{Instance, MemoryFault};
+use used_decisions::{Standing, proof_of, without_unused};
 
 /// No plan has a delay below 9.
 const ONE_LEAF: &str =

@@ -1,8 +1,7 @@
 //! Which facts count as what a step rests on?
 
 use crate::closers::bytes_counted;
-use step_reads::add_source;
-use tt_infer::{Fact, Facts, Reads, Source, reads, sender};
+use tt_infer::{Fact, Facts, Reads, Source, add_source, reads, sender};
 use ttp_model::{Instance, MemoryFault, Step};
 
 /// Adds the facts that a step rests on, where these facts are known when the last step is taken.

@@ -2,8 +2,7 @@
 
 use crate::counted::add_counted;
 use std::alloc::Global;
-use step_reads::FactSet;
-use tt_infer::{Fact, Facts, target};
+use tt_infer::{Fact, FactSet, Facts, target};
 use ttp_model::{Instance, MemoryFault, Step, has_flag};
 
 /// Steps one after another, of which some are marked.

@@ -19,7 +19,7 @@ use Rattle.tt_infer.proofs.FirstFacts.{first_facts_fit}
 use Rattle.tt_infer.proofs.Sound.{step_is_about, Fits-step}
 use Rattle.tt_infer.specs.Leaves.{LeadSharply, ClosesSharply}
 use Rattle.step_logs.specs.Journal.{Journal, Advances, slack}
-use Rattle.step_reads.proofs.Targets.{stays}
+use Rattle.tt_infer.proofs.Targets.{stays}
 use Rattle.step_logs.proofs.Targets.{lowers}
 
 -- a lawful step that changes what is known lowers the slack

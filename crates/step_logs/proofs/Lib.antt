@@ -6,4 +6,4 @@ pub mod Counts
 pub mod Complete
 pub mod one_order
 pub mod KeptLogs
-pub use Rattle.step_reads.proofs.shared.RuledOut
+pub use Rattle.tt_infer.proofs.shared.RuledOut

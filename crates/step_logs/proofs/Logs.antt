@@ -13,9 +13,9 @@ use Rattle.tt_infer.specs.declared.fault.StepFault.{StepFault}
 use Rattle.tt_infer.specs.Answers.{IsStepFault}
 use Rattle.tt_infer.proofs.Sound.{step_is_about}
 use Rattle.tt_infer.proofs.Determined.{fault-not_lawful, IsLawful-determined}
-use Rattle.step_reads.specs.Targets.{target, known_value}
+use Rattle.tt_infer.specs.Targets.{target, known_value}
 use Rattle.step_logs.specs.Journal.{Journal, Advances, Sharpens, SharpensNothing, slack, slack_of}
-use Rattle.step_reads.proofs.Targets.{stays}
+use Rattle.tt_infer.proofs.Targets.{stays}
 use Rattle.tt_infer.proofs.Rows.{target_is}
 use Rattle.step_logs.proofs.Targets.{lowers}
 

@@ -6,7 +6,7 @@ use Rattle.tt_choice.specs.Precedence.{place_in, put_before}
 use Rattle.tt_choice.proofs.Before.{put_same, place_inside, test_of}
 use Rattle.tt_infer.specs.Known.{Known, Fits, bef_of}
 use Rattle.tt_infer.specs.Conclusions.{Conclusion, StartsFrom, EndsUntil, SentFrom, SentBefore, GoesFirst, NothingLeft, IsAbout, sharpened}
-use Rattle.step_reads.specs.Targets.{fact_of, known_value}
+use Rattle.tt_infer.specs.Targets.{fact_of, known_value}
 use Rattle.step_logs.specs.Journal.{slack}
 
 less : (g : ℕ → ℕ) (xs : List ℕ) (k v : ℕ) → k < length xs → g v < g (slice_index xs k) → sum_by g (slice_set xs k v) < sum_by g xs

@@ -9,4 +9,4 @@ pub use Rattle.tt_choice.specs.Choice
 pub use Rattle.tt_infer.specs.Known
 pub use Rattle.tt_infer.specs.Facts
 pub use Rattle.tt_infer.specs.Leaves
-pub use Rattle.step_reads.specs.Targets
+pub use Rattle.tt_infer.specs.Targets

@@ -8,16 +8,15 @@ ghost use Rattle.tt_infer.specs.Known.{first_facts};
 ghost use Rattle.tt_infer.specs.Conclusions.{GoesFirst, sharpened};
 ghost use Rattle.tt_infer.specs.Facts.{after};
 ghost use Rattle.tt_infer.specs.Table.{target};
-ghost use Rattle.step_reads.specs.Targets.{known_value};
+ghost use Rattle.tt_infer.specs.Targets.{known_value};
 ghost use Rattle.step_logs.specs.Journal.{Advances, Sharpens, SharpensNothing, slack_of};
 
 use crate::copies::{push_copies, push_copy};
 use std::alloc::Global;
 use std::marker::Model;
 use step_agenda::Written;
-use step_reads::value;
 use tt_choice::{Choice, Decision};
-use tt_infer::{Fact, Facts, target};
+use tt_infer::{Fact, Facts, target, value};
 use ttp_model::{Instance, MemoryFault, Step};
 
 /// What is known of the plans that are sought, with a log of the steps that sharpened it.

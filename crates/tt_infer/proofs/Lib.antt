@@ -1,3 +1,7 @@
+pub mod OfItsNode
+pub mod Targets
+pub mod AddedFacts
+pub mod shared
 pub mod Selected
 pub mod Sending
 pub mod Loads

@@ -1,3 +1,8 @@
+pub mod Targets
+pub mod Added
+pub mod Shared
+pub mod Uses
+pub mod RuledOut
 pub mod Lines
 pub mod Sources
 pub mod Table

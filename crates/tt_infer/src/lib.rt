@@ -2,26 +2,34 @@
 #![tactic(auto)]
 
 mod fact;
+mod fact_set;
 mod facts;
 mod fault;
 mod indices;
+mod known_values;
 mod laws;
 mod limit;
 mod line;
+mod read_facts;
+mod read_laws;
 mod rules;
 mod source;
 mod worked;
 
 pub use fact::{Fact, link_after, link_before, sender, sending_node};
+pub use fact_set::FactSet;
 pub use facts::Facts;
 pub use fault::StepFault;
 pub use indices::receives;
+pub use known_values::value;
 pub use laws::{
     first_facts_hold, leaves_rule_out, rules_are_sound, rules_conclude, steps_are_determined,
     steps_are_sound, steps_lead_as_far_inside, steps_only_sharpen,
 };
 pub use limit::Limit;
 pub use line::{FewNumbers, Line, LineNumbers, channel_line, plain_line};
+pub use read_facts::{add_reads, add_source};
+pub use read_laws::{needed_decisions_rule_out, steps_rest_on_what_they_read};
 pub use rules::{
     line_of, link_steps, load_of, message_closers, message_steps, pair_steps, process_closers,
     process_steps, reads, step_with, target, transfer_steps,

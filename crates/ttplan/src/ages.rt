@@ -1,14 +1,14 @@
 //! How is it told of the cluster of several rates of a file how old what a chain carries has to be, and where is that written?
 
 use crate::searches::{lines_for, options_of, patient_for};
-use age_command::{
-    AGE, AgeEnd, Asking, Beside, age_json, age_run, age_status, report_age, tell_age,
-};
 use command_line::{Age, AnswerForm, Asks};
 use file_commands::files::{FileFault, Files, Named, Sheet};
 use file_commands::hints::{Said, hint_at_chain, hint_at_file};
 use file_commands::judging::as_json;
 use file_commands::{RatesEnd, RatesFault};
+use question_commands::{
+    AGE, AgeEnd, Asking, Beside, age_json, age_run, age_status, report_age, tell_age,
+};
 use solve_command::{Follower, FreeGate, Searches};
 use std::marker::Sync;
 use std::sync::Wait;

@@ -9,7 +9,6 @@ mod plan_file;
 mod searches;
 mod version;
 
-pub use age_command::{AgeEnd, age_run, age_status, report_age};
 use command_line::{Request, refuse, request_in};
 pub use command_streams::{End, Fault, Release, SearchFault, Sink, Source, report, status};
 use file_commands::hints::{Said, told};
@@ -22,7 +21,8 @@ pub use file_commands::{
 };
 use file_commands::{joining, judging, rates};
 pub use question_commands::{
-    Beside, Wanted, limit_json, limit_run, margin_json, margin_run, why_json, why_run,
+    AgeEnd, Beside, Wanted, age_run, age_status, limit_json, limit_run, margin_json, margin_run,
+    report_age, why_json, why_run,
 };
 pub use solve_command::{Options, solve_run};
 use std::io;

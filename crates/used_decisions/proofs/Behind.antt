@@ -17,9 +17,9 @@ use Rattle.tt_infer.proofs.Keeps.{changed_there}
 use Rattle.tt_infer.proofs.Sound.{step_is_about}
 use Rattle.tt_infer.specs.declared.fact.Fact.{Fact}
 use Rattle.tt_infer.specs.declared.fact.Fact.TheVariants.{Start, End, FirstRound, LateRound, Order, Closed}
-use Rattle.step_reads.specs.Targets.{fact_of}
+use Rattle.tt_infer.specs.Targets.{fact_of}
 use Rattle.tt_infer.specs.Reads.{AgreeOn}
-use Rattle.step_reads.specs.Shared.{IsWritten}
+use Rattle.tt_infer.specs.Shared.{IsWritten}
 use Rattle.tt_infer.proofs.Rows.{target_is}
 use Rattle.used_decisions.specs.Turns.{Path}
 use Rattle.used_decisions.specs.declared.given.Given.{Given}

@@ -7,8 +7,8 @@ use Rattle.tt_choice.specs.declared.decision.Decision.{Decision}
 use Rattle.tt_choice.specs.Branches.{root_choice}
 use Rattle.tt_choice.specs.Decisions.{AreOpenDecisions, chosen}
 use Rattle.sought_plans.specs.Known.{IsSought}
-use Rattle.step_reads.specs.RuledOut.{IsRuledOut}
-use Rattle.step_reads.proofs.shared.RuledOut.{none_below}
+use Rattle.tt_infer.specs.RuledOut.{IsRuledOut}
+use Rattle.tt_infer.proofs.shared.RuledOut.{none_below}
 use Rattle.used_decisions.specs.Proved.{all_kept}
 use Rattle.used_decisions.proofs.Marks.{all_are_all, keeps_first}
 

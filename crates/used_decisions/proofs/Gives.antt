@@ -7,8 +7,8 @@ use Rattle.ttp_model.specs.Instance.{Instance}
 use Rattle.tt_choice.specs.declared.decision.Decision.{Decision}
 use Rattle.tt_choice.specs.declared.decision.Decision.TheVariants.{Before}
 use Rattle.tt_choice.specs.Kept.{sets_order}
-use Rattle.step_reads.specs.Targets.{target}
-use Rattle.step_reads.specs.Shared.{IsWritten}
+use Rattle.tt_infer.specs.Targets.{target}
+use Rattle.tt_infer.specs.Shared.{IsWritten}
 use Rattle.tt_infer.specs.declared.fact.Fact.{Fact}
 use Rattle.tt_infer.specs.declared.fact.Fact.TheVariants.{FirstRound, LateRound, Order}
 use Rattle.used_decisions.specs.Tables.{order_place, orders_at}

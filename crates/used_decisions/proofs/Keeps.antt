@@ -19,7 +19,7 @@ use Rattle.tt_infer.specs.declared.fact.Fact.TheVariants.{Start, End, FirstRound
 use Rattle.tt_infer.specs.declared.limit.Limit.{Limit}
 use Rattle.tt_infer.specs.declared.limit.Limit.TheVariants.{Goal, LeastSlot, GreatestSlot, LeastFrame, GreatestFrame, Place, Copies, Counted}
 use Rattle.tt_infer.specs.Reads.{ReadsFact, ReadsLimit}
-use Rattle.step_reads.specs.Uses.{KeepsFact, KeepsLimit, UseKept}
+use Rattle.tt_infer.specs.Uses.{KeepsFact, KeepsLimit, UseKept}
 use Rattle.used_decisions.specs.declared.turn.Turn.{Turn}
 use Rattle.used_decisions.specs.declared.turn.Placed.{Placed}
 use Rattle.used_decisions.specs.Levels.{has_level}

@@ -9,8 +9,8 @@ use Rattle.tt_choice.specs.Decisions.{AreOpenDecisions, chosen}
 use Rattle.tt_choice.specs.Kept.{Marked, all_of}
 use Rattle.sought_plans.specs.Known.{first_facts}
 use Rattle.tt_infer.specs.Leaves.{ClosesSharply}
-use Rattle.step_reads.specs.Uses.{UseKept}
-use Rattle.step_reads.specs.RuledOut.IsRuledOut.{by_leaf}
+use Rattle.tt_infer.specs.Uses.{UseKept}
+use Rattle.tt_infer.specs.RuledOut.IsRuledOut.{by_leaf}
 use Rattle.used_decisions.specs.declared.turn.Turn.{Turn}
 use Rattle.used_decisions.specs.Marks.{KeepsLevels}
 use Rattle.used_decisions.specs.Proved.{levelled, IsProvedBy}

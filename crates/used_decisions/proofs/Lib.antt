@@ -1,11 +1,13 @@
+pub mod TreeHeights
+pub mod RuledOut
 pub mod Marks
 pub mod Below
 pub mod Leaves
 pub mod Proved
 pub mod FreeNodes
 pub mod Ways
-pub use Rattle.step_reads.proofs.shared.RuledOut
-pub use Rattle.step_reads.proofs.shared.Uses
+pub use Rattle.tt_infer.proofs.shared.RuledOut
+pub use Rattle.tt_infer.proofs.shared.Uses
 pub mod LevelBits
 pub mod LastTurns
 pub mod Told

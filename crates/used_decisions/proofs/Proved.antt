@@ -9,7 +9,7 @@ use Rattle.tt_choice.specs.Branches.{IsOpen, children}
 use Rattle.tt_choice.specs.Decisions.{chosen, decision_of}
 use Rattle.tt_choice.specs.Kinds.{is_of_places}
 use Rattle.tt_choice.specs.Kept.{keep, drop, all_of, places_kept}
-use Rattle.step_reads.specs.RuledOut.IsRuledOut.{by_children, by_one}
+use Rattle.tt_infer.specs.RuledOut.IsRuledOut.{by_children, by_one}
 use Rattle.used_decisions.specs.declared.turn.Turn.{Turn}
 use Rattle.used_decisions.specs.declared.turn.Placed.{Placed}
 use Rattle.used_decisions.specs.Levels.{has_level}

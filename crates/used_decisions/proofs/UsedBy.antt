@@ -14,7 +14,7 @@ use Rattle.tt_choice.proofs.Root.{IsChoice-root}
 use Rattle.sought_plans.specs.Known.{first_facts}
 use Rattle.tt_infer.specs.Leaves.{ClosesSharply}
 use Rattle.tt_infer.proofs.FirstFacts.{first_facts_fit}
-use Rattle.step_reads.specs.Uses.{UseKept}
+use Rattle.tt_infer.specs.Uses.{UseKept}
 use Rattle.used_decisions.specs.declared.turn.Turn.{Turn}
 use Rattle.used_decisions.specs.Turns.{Path}
 use Rattle.used_decisions.specs.Marks.{KeepsLevels}

@@ -8,7 +8,7 @@ use Rattle.tt_choice.specs.declared.decision.Decision.{Decision}
 use Rattle.used_decisions.specs.declared.turn.Turn.{Turn}
 use Rattle.used_decisions.specs.Turns.{Path, path_after, path_above}
 use Rattle.used_decisions.proofs.Told.{without_last}
-use Rattle.step_reads.specs.RuledOut.{IsRuledOut}
+use Rattle.tt_infer.specs.RuledOut.{IsRuledOut}
 use Rattle.used_decisions.specs.Proved.{all_kept, levelled}
 use Rattle.used_decisions.specs.Ways.{decisions_of, IsOpenBranch, AreBranches, AreKnown, IsWay}
 use Rattle.used_decisions.specs.declared.branch.OpenBranch.{OpenBranch}

@@ -1,3 +1,5 @@
+pub mod Branches
+pub mod Heights
 pub mod Levels
 pub mod Turns
 pub mod Tables
@@ -11,4 +13,4 @@ pub mod Children
 pub mod Proved
 pub mod Ways
 pub mod Needs
-pub use Rattle.step_reads.specs.RuledOut
+pub use Rattle.tt_infer.specs.RuledOut

@@ -3,7 +3,7 @@ use Rattle.std.specs.Prelude.{ℕ, ◌+◌, List, [], ◌∷◌, Bool}
 use Rattle.ttp_model.specs.Instance.{Instance}
 use Rattle.tt_choice.specs.declared.decision.Decision.{Decision}
 use Rattle.tt_choice.specs.Kept.{Marked, keep}
-use Rattle.step_reads.specs.RuledOut.{IsRuledOut}
+use Rattle.tt_infer.specs.RuledOut.{IsRuledOut}
 use Rattle.used_decisions.specs.declared.turn.Turn.{Turn}
 use Rattle.used_decisions.specs.Marks.{KeepsLevels}
 

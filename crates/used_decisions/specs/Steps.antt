@@ -18,7 +18,7 @@ use Rattle.sought_plans.specs.Premises.{counts_on}
 use Rattle.tt_infer.specs.Table.{rule}
 use Rattle.tt_infer.specs.Reads.{AgreeOn, HasItsPlace, IsFactOf, IsLimitOf, IsSourceThere, ReadsFact, ReadsLimit, KeepsOut, TellsApart}
 use Rattle.tt_infer.specs.Sources.{Source}
-use Rattle.step_reads.specs.Shared.{IsWritten}
+use Rattle.tt_infer.specs.Shared.{IsWritten}
 use Rattle.tt_infer.specs.declared.fact.Fact.{Fact}
 use Rattle.tt_infer.specs.declared.fact.Fact.TheVariants.{Start, End, FirstRound, LateRound, Order, Closed}
 use Rattle.tt_infer.specs.declared.limit.Limit.{Limit}

@@ -7,7 +7,7 @@ use Rattle.tt_choice.specs.declared.decision.Decision.{Decision}
 use Rattle.tt_choice.specs.Branches.{IsBranch}
 use Rattle.tt_choice.specs.Decisions.{chosen, decision_of}
 use Rattle.tt_choice.specs.Kept.{Marked, keep}
-use Rattle.step_reads.specs.RuledOut.{IsRuledOut}
+use Rattle.tt_infer.specs.RuledOut.{IsRuledOut}
 use Rattle.used_decisions.specs.Levels.{has_level}
 use Rattle.used_decisions.specs.Marks.{KeepsLevels}
 use Rattle.used_decisions.specs.Turns.{Path}

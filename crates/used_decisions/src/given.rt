@@ -3,7 +3,7 @@
 ghost use Rattle.std.specs.Prelude.{◌≡◌, ◌∷◌, List, false, true, length, replicate, slice_set, IfOk};
 ghost use Rattle.ttp_model.specs.declared.step.Step.{Step};
 ghost use Rattle.ttp_model.specs.Instance.{Instance};
-ghost use Rattle.step_reads.specs.Targets.{target};
+ghost use Rattle.tt_infer.specs.Targets.{target};
 ghost use Rattle.used_decisions.specs.Tables.{order_place};
 ghost use Rattle.used_decisions.specs.Given.{nothing_given, gives_least, gives_greatest, gives_before};
 ghost use Rattle.used_decisions.specs.Steps.{HasFlags, IsGivenBy};

@@ -6,7 +6,7 @@ ghost use Rattle.tt_choice.specs.Branches.{IsBranch, root_choice};
 ghost use Rattle.tt_choice.specs.Decisions.{AreOpenDecisions, chosen};
 ghost use Rattle.tt_choice.specs.declared.decision.Decision.{Decision};
 ghost use Rattle.tt_infer.specs.Leaves.{ClosesSharply};
-ghost use Rattle.step_reads.specs.RuledOut.{IsRuledOut};
+ghost use Rattle.tt_infer.specs.RuledOut.{IsRuledOut};
 ghost use Rattle.used_decisions.specs.Proved.{all_kept};
 ghost use Rattle.used_decisions.specs.Needs.{HoldsAt, HoldUpTo, AreAt};
 

@@ -8,7 +8,7 @@ ghost use Rattle.tt_choice.specs.Decisions.{AreOpenDecisions, chosen};
 ghost use Rattle.tt_choice.specs.Kept.{Marked, all_of};
 ghost use Rattle.sought_plans.specs.Known.{first_facts};
 ghost use Rattle.tt_infer.specs.Leaves.{ClosesSharply};
-ghost use Rattle.step_reads.specs.Uses.{UseKept};
+ghost use Rattle.tt_infer.specs.Uses.{UseKept};
 ghost use Rattle.used_decisions.specs.Marks.{KeepsLevels};
 ghost use Rattle.used_decisions.specs.Uses.{IsMore};
 ghost use Rattle.used_decisions.specs.Steps.{AreStepsTold, HasFlags, IsGivenBy, IsReadOf};

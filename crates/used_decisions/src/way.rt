@@ -4,7 +4,7 @@ ghost use Rattle.std.specs.Prelude.{◌≡◌, ◌≤◌, ◌<◌, ◌+◌, ◌-
 ghost use Rattle.tt_choice.specs.Branches.{IsBranch, root_choice};
 ghost use Rattle.tt_choice.specs.Decisions.{AreOpenDecisions, chosen, decision_of};
 ghost use Rattle.tt_infer.specs.Leaves.{ClosesSharply};
-ghost use Rattle.step_reads.specs.RuledOut.{IsRuledOut};
+ghost use Rattle.tt_infer.specs.RuledOut.{IsRuledOut};
 ghost use Rattle.used_decisions.specs.Levels.{has_level};
 ghost use Rattle.used_decisions.specs.Proved.{all_kept, IsProvedBy};
 ghost use Rattle.used_decisions.specs.Ways.{decisions_of, IsOpenBranch};

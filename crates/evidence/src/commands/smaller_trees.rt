@@ -4,9 +4,9 @@ ghost use Rattle.std.specs.Prelude.{◌≡◌, ◌≤◌, IfOk, IfSome};
 ghost use Rattle.tree_check.specs.Proofs.{Proves};
 
 use certificate::{Cert, Node, Version};
-use dropped_decisions::{Standing, accepted, branches_among, proof_of, without_unused};
 use std::alloc::Global;
 use ttp_model::{Instance, MemoryFault};
+use used_decisions::{Standing, accepted, branches_among, proof_of, without_unused};
 
 /// The bound, in ticks, of nodes that were accepted and then made fewer: the one that was asked for.
 pub fn bound_is_the_one_asked_for(

@@ -7,9 +7,9 @@ ghost use Rattle.ttp_model.specs.Names.{message_name};
 ghost use Rattle.plan_reasons.specs.declared.path_lines.PathPart.{PathPart};
 ghost use Rattle.plan_reasons.specs.declared.path_lines.Transfer.{Transfer};
 
-use plan_reasons::{MemoryFault, PathChain, path_chain_reason};
+use plan_reasons::{PathChain, path_chain_reason};
 use std::alloc::Global;
-use ttp_model::Instance;
+use ttp_model::{Instance, MemoryFault};
 
 /// A message for which the last process waits is told to take all of its ticks.
 pub fn all_ticks_of_a_transfer_are_told(

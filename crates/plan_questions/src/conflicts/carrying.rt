@@ -10,7 +10,6 @@ use super::renumbered::renumbered;
 use crate::asking::Asking;
 use crate::sought::{Sought, any_plan};
 use certificate::Cert;
-use dropped_decisions::{accepted, branches_among};
 use instance_variants::{Constraints, with_only};
 use planner::{Gate, Options, SolveFault};
 use std::alloc::Global;
@@ -18,6 +17,7 @@ use std::marker::Sync;
 use std::sync::Wait;
 use std::thread::Threads;
 use ttp_model::{Instance, MemoryFault};
+use used_decisions::{accepted, branches_among};
 
 /// The certificate of a conflict for an instance by fewer of its constraints, where a check of it says that there is no plan either.
 fn carried_over(

@@ -5,7 +5,7 @@ ghost use Rattle.ttp_model.specs.Lists.{greatest};
 ghost use Rattle.instance_variants.specs.Ends.{AreThere, IsLowerEnd};
 ghost use Rattle.plan_questions.specs.EndAnswers.{IsBehindChains};
 
-use longest_chains::longest_chains;
+use plan_facts::longest_chains;
 use std::alloc::Global;
 use ttp_model::{Instance, MemoryFault};
 

@@ -1,5 +1,5 @@
 use Rattle.std.proofs.Common.{arith}
-use Rattle.longest_chains.proofs.Walks.{chain_small}
+use Rattle.plan_facts.proofs.Walks.{chain_small}
 use Rattle.plan_reasons.proofs.late.push_link.Goals as goal
 
 pub push_late-requires-clause-small : goal.push_late-requires-clause-small

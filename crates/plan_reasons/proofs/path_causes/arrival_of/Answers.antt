@@ -1,7 +1,7 @@
 use Rattle.std.proofs.Common.{slice_index, arith, ap, ◌∙◌}
 use Rattle.ttp_model.specs.declared.parts.Message.{Message}
 use Rattle.ttp_model.specs.Chains.{least_transfer}
-use Rattle.longest_chains.proofs.Walks.{chain_small}
+use Rattle.plan_facts.proofs.Walks.{chain_small}
 use Rattle.plan_reasons.proofs.path_causes.arrival_of.Goals as goal
 
 pub overflow_add-result : goal.overflow_add-result

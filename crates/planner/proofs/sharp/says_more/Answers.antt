@@ -1,6 +1,6 @@
 use Rattle.std.proofs.Common.{◌≡◌, ap, sym, ◌∙◌}
 use Rattle.std.proofs.lemmas.Bool.{false≢true}
-use Rattle.step_reads.specs.Targets.{target, known_value}
+use Rattle.tt_infer.specs.Targets.{target, known_value}
 use Rattle.tt_infer.proofs.Determined.{fault-not_lawful}
 use Rattle.planner.proofs.SharpSteps.{nothing_more, only_next, values_agree, values_differ}
 use Rattle.planner.proofs.sharp.says_more.Goals as goal

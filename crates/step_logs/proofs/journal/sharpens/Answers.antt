@@ -1,7 +1,7 @@
 use Rattle.std.proofs.Common.{◌≡◌, ap, sym, ◌∙◌}
 use Rattle.std.proofs.lemmas.Bool.{false≢true}
 use Rattle.tt_infer.specs.Facts.{after}
-use Rattle.step_reads.specs.Targets.{target, known_value}
+use Rattle.tt_infer.specs.Targets.{target, known_value}
 use Rattle.step_logs.proofs.Logs.{sharpens_changed, stays_same, differ_from, same_from, idle_taken, idle_refused}
 use Rattle.step_logs.proofs.journal.sharpens.Goals as goal
 

@@ -1,6 +1,6 @@
-use Rattle.step_reads.specs.RuledOut.{by_leaf}
-use Rattle.step_reads.proofs.shared.RuledOut.{none_left}
-use Rattle.step_reads.proofs.shared.Uses.{leaf_kept}
+use Rattle.tt_infer.specs.RuledOut.{by_leaf}
+use Rattle.tt_infer.proofs.shared.RuledOut.{none_left}
+use Rattle.tt_infer.proofs.shared.Uses.{leaf_kept}
 use Rattle.used_decisions.proofs.laws.used_decisions_rule_out.Goals as goal
 
 pub returns : goal.returns

@@ -1,7 +1,7 @@
 use Rattle.std.proofs.Common.{◌≡◌, ◌∷◌, ◌++◌, [], List, take, ◌+◌, ap, sym, subst, ◌∙◌}
 use Rattle.std.proofs.lemmas.List.{take_all, take_more}
 use Rattle.ttp_model.specs.declared.step.Step.{Step}
-use Rattle.step_reads.specs.Targets.{target}
+use Rattle.tt_infer.specs.Targets.{target}
 use Rattle.used_decisions.specs.Steps.{AreStepsTold, behind}
 use Rattle.used_decisions.proofs.ReadSteps.{read_first, read_more_steps}
 use Rattle.used_decisions.proofs.reader.read_steps.Goals as goal

@@ -1,5 +1,5 @@
 use Rattle.std.proofs.Common.{◌≡◌, ◌∙◌, count_by, arith, refl}
-use Rattle.dropped_decisions.specs.Branches.{branches, is_branch}
+use Rattle.used_decisions.specs.Branches.{branches, is_branch}
 use Rattle.plan_questions.proofs.Shown.{shown_by_check}
 use Rattle.plan_questions.proofs.conflicts.carrying.carried_over.Goals as goal
 

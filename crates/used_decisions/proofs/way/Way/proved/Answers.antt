@@ -1,7 +1,7 @@
 use Rattle.std.proofs.Common.{ℕ, ◌≤◌, Option, IfSome, subst}
 use Rattle.std.specs.Global.{Vec}
 use Rattle.tt_choice.specs.declared.decision.Decision.{Decision}
-use Rattle.step_reads.specs.RuledOut.{IsRuledOut}
+use Rattle.tt_infer.specs.RuledOut.{IsRuledOut}
 use Rattle.used_decisions.specs.Proved.{all_kept}
 use Rattle.used_decisions.specs.Ways.{Way}
 use Rattle.used_decisions.proofs.way.Way.proved.Goals as goal

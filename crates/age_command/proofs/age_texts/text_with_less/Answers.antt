@@ -1,5 +1,0 @@
-use Rattle.age_command.proofs.AgeAnswers.{with_less}
-use Rattle.age_command.proofs.age_texts.text_with_less.Goals as goal
-
-pub returns : goal.returns
-returns c = with_less c.args.wanted _ _ c.args.age _ c.instance_text.result c.if-not-wanted.false c.in_ok-less.ensures c.instance_text.ensures

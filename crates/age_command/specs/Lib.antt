@@ -1,5 +1,0 @@
-pub mod AgeTelling
-pub mod Chains
-pub mod Texts
-pub mod Answers
-pub mod Endings

@@ -1,4 +1,0 @@
-pub mod TreeHeights
-pub mod RuledOut
-pub use Rattle.tree_check.proofs.Bounds
-pub use Rattle.tree_check.proofs.OneChannel

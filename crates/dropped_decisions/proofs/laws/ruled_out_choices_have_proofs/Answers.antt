@@ -1,5 +1,0 @@
-use Rattle.dropped_decisions.proofs.RuledOut.{proof_of}
-use Rattle.dropped_decisions.proofs.laws.ruled_out_choices_have_proofs.Goals as goal
-
-pub returns : goal.returns
-returns c = λ i low ms w ruled are places. proof_of i low w ms ruled are places

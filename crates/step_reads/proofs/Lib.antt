@@ -1,4 +1,0 @@
-pub mod OfItsNode
-pub mod Targets
-pub mod AddedFacts
-pub mod shared

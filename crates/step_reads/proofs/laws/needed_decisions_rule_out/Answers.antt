@@ -1,5 +1,0 @@
-use Rattle.step_reads.proofs.shared.RuledOut.{none_left, none_below}
-use Rattle.step_reads.proofs.laws.needed_decisions_rule_out.Goals as goal
-
-pub returns : goal.returns
-returns c = record { needed = λ i low ms w. none_left i low w ms; below = λ i low ms more w. none_below i low w ms more }

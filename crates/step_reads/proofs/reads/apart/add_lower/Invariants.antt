@@ -1,6 +1,0 @@
-use Rattle.tt_infer.specs.Reads.{OfSome}
-use Rattle.step_reads.specs.Added.{AddsFacts, TellsOneNodeApart}
-use Rattle.step_reads.proofs.reads.apart.add_lower.Given as goal
-
-abbrev pub invariant-loop-k : goal.invariant-loop-k
-invariant-loop-k l = AddsFacts (OfSome l.k (TellsOneNodeApart l.facts.instance l.facts.known l.m)) l.fn.reads.items l.reads.items

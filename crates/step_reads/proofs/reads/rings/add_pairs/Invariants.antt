@@ -1,6 +1,0 @@
-use Rattle.tt_infer.specs.Reads.{OfSome}
-use Rattle.step_reads.specs.Added.{AddsFacts, OrdersNext}
-use Rattle.step_reads.proofs.reads.rings.add_pairs.Given as goal
-
-abbrev pub invariant-loop-k : goal.invariant-loop-k
-invariant-loop-k l = AddsFacts (OfSome l.k (OrdersNext l.instance l.ring)) l.fn.reads.items l.reads.items

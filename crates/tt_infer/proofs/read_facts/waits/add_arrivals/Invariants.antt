@@ -1,0 +1,10 @@
+use Rattle.std.proofs.Common.{ℕ, ◌≤◌, length, slice_index}
+use Rattle.tt_infer.specs.Reads.{OfSome}
+use Rattle.tt_infer.specs.Added.{AddsFacts, TellsArrival}
+use Rattle.tt_infer.proofs.read_facts.waits.add_arrivals.Given as goal
+
+abbrev pub invariant-loop-m : goal.invariant-loop-m
+invariant-loop-m l = record {
+  within : l.m-index ≤ length l.m-items;
+  adds : AddsFacts (OfSome l.m-index (λ (j : ℕ). TellsArrival l.instance l.p (slice_index l.m-items j))) l.fn.reads.items l.reads.items;
+}
