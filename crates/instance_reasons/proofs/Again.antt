@@ -13,12 +13,12 @@ use Rattle.ttp_model.specs.declared.error.ModelError.{ModelError}
 use Rattle.ttp_model.specs.declared.error.ModelError.TheVariants as model
 use Rattle.instance_text.specs.declared.error.TextError.{TextError}
 use Rattle.instance_text.specs.declared.error.TextError.TheVariants.{Model, NotToml, OutOfMemory}
-use Rattle.instance_text.specs.declared.text.Parts.{Parts}
+use Rattle.ttp_model.specs.declared.parts.Parts.{Parts}
 use Rattle.instance_text.specs.Faults.{IsDocument, IsFirstTextFault, IsNoDocument, IsRefusedBy, States}
 use Rattle.instance_text.specs.Index.{cut_index, cut_index_in}
 use Rattle.instance_text.specs.Kinds.{index_in}
 use Rattle.instance_text.specs.Stated.{stated, stated_by}
-use Rattle.instance_text.specs.Views.{instance_of}
+use Rattle.ttp_model.specs.Parts.{instance_of}
 use Rattle.instance_text.proofs.CutIndices.{only_stated}
 use Rattle.instance_text.proofs.CutLaws.{BothOrNeither, HaveLengths, KnowSame, alike_ok, alike_stated}
 use Rattle.instance_reasons.specs.declared.grammar.NotToml.{NotToml as Unparsed}

@@ -9,7 +9,7 @@ use Rattle.instance_text.specs.declared.error.TextError.{TextError}
 use Rattle.instance_text.specs.declared.error.TextError.TheVariants as fault
 use Rattle.instance_text.specs.Faults.{IsDocument, IsNoDocument, IsRefusedBy}
 use Rattle.instance_text.specs.Stated.{stated}
-use Rattle.instance_text.specs.Views.{instance_of}
+use Rattle.ttp_model.specs.Parts.{instance_of}
 use Rattle.instance_reasons.specs.declared.reason.InstanceReason.{InstanceReason}
 use Rattle.instance_reasons.specs.declared.reason.InstanceReason.TheVariants as reason
 use Rattle.instance_reasons.specs.declared.reason.ReadAgain.{ReadAgain}

@@ -4,17 +4,16 @@ ghost use Rattle.std.specs.Prelude.{◌-◌, ◌<◌, ◌≤◌, length, slice_i
 ghost use Rattle.ttp_model.specs.Limits.{most_bytes};
 ghost use Rattle.ttp_model.specs.Lists.{EachBelow, FindsFailure, IsFirstFailure};
 ghost use Rattle.ttp_model.specs.Rules.{HasCapacityList, IsCapacityList};
-ghost use Rattle.instance_text.specs.Views.{instance_of};
+ghost use Rattle.ttp_model.specs.Parts.{instance_of};
 ghost use Rattle.instance_reasons.specs.Capacities.{IsCapacityFault, IsSmallAt, IsWrongCapacities, Rises};
 
 use crate::parts::capacities_of;
 use crate::spots::{Spot, spot_at};
-use instance_text::Parts;
 use sentences::Word::Number;
 use sentences::{Member, tell, write_members, write_members_and};
 use serde::{Described, Serialize, Serializer};
 use std::fmt;
-use ttp_model::{MOST_BYTES, MOST_CAPACITIES, Place};
+use ttp_model::{MOST_BYTES, MOST_CAPACITIES, Parts, Place};
 
 /// What is wrong with a list of capacities, in bytes.
 #[derive(Clone, Copy)]

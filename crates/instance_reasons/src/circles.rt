@@ -3,17 +3,17 @@
 ghost use Rattle.std.specs.Prelude.{◌≡◌, ◌<◌, ◌↔◌, IfOk, IsTrue, MatchOption, length};
 ghost use Rattle.ttp_model.specs.Graph.{HasLink, HasMessage, IsClosedWalk, Leads};
 ghost use Rattle.ttp_model.specs.Names.{message_name};
-ghost use Rattle.instance_text.specs.Views.{instance_of};
+ghost use Rattle.ttp_model.specs.Parts.{instance_of};
 ghost use Rattle.instance_reasons.specs.Circles.{IsCircle, IsCircleStep, IsFirstLink, IsFirstMessage, IsJoin, MessageLeads, before_at};
 
 use crate::parts::process_name;
-use instance_text::Parts;
 use sentences::Word::{Number, Told};
 use sentences::{MOST_ITEMS, Member, tell, write_members, write_members_and};
 use serde::{Described, Serialize, Serializer};
 use std::alloc::{AllocError, Global};
 use std::fmt;
 use std::fmt::Display;
+use ttp_model::Parts;
 
 /// By what a process waits for another one.
 #[derive(Clone, Copy)]

@@ -3,16 +3,15 @@
 ghost use Rattle.std.specs.Prelude.{◌≡◌, ◌<◌};
 ghost use Rattle.ttp_model.specs.Refusals.{IsFirstWrongLength};
 ghost use Rattle.ttp_model.specs.Rules.{HasReceiver};
-ghost use Rattle.instance_text.specs.Views.{instance_of};
+ghost use Rattle.ttp_model.specs.Parts.{instance_of};
 ghost use Rattle.instance_reasons.specs.Counts.{AreTooMany, IsNoReceiver, IsWrongCount, count_of, most_of};
 
 use crate::spots::{Spot, spot_at};
-use instance_text::Parts;
 use sentences::Word::{Number, Text};
 use sentences::{Member, tell, write_members};
 use serde::{Described, Serialize, Serializer};
 use std::fmt;
-use ttp_model::{MOST_LINKS, MOST_MESSAGES, MOST_NODES, MOST_PROCESSES, Part, Place};
+use ttp_model::{MOST_LINKS, MOST_MESSAGES, MOST_NODES, MOST_PROCESSES, Part, Parts, Place};
 
 /// A list of an instance that has too few entries or too many.
 #[derive(Clone, Copy)]

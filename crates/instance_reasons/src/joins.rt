@@ -4,17 +4,17 @@ ghost use Rattle.std.specs.Prelude.{◌≡◌, ◌≢◌, ◌<◌, ◌↔◌, Is
 ghost use Rattle.ttp_model.specs.Instance.{node_of};
 ghost use Rattle.ttp_model.specs.Lists.{EachBelow, IsFirstFailure};
 ghost use Rattle.ttp_model.specs.Rules.{HasChannels, ReceivesOnce, SendsAway, StaysOnNode};
-ghost use Rattle.instance_text.specs.Views.{instance_of};
+ghost use Rattle.ttp_model.specs.Parts.{instance_of};
 ghost use Rattle.instance_reasons.specs.Joins.{IsBothOfOne, IsNewAt, IsReceiverThere, IsReceiverTwice, IsWrongLink};
 
 use crate::parts::{
     link_at, message_name, node_of, place_name, process_name, receivers_of, sender_of,
 };
-use instance_text::Parts;
 use sentences::Word::{Number, Told};
 use sentences::{Member, tell, write_members};
 use serde::{Described, Serialize, Serializer};
 use std::fmt;
+use ttp_model::Parts;
 
 /// A message to a receiver that is on its sender's node, of several the first.
 #[derive(Clone, Copy)]

@@ -3,19 +3,18 @@
 ghost use Rattle.std.specs.Prelude.{◌≡◌, ◌<◌, IfOk, length, string_bytes};
 ghost use Rattle.ttp_model.specs.Lists.{FindsFailure, IsFirstFailure};
 ghost use Rattle.ttp_model.specs.Rules.{IsName, IsNamed};
-ghost use Rattle.instance_text.specs.Views.{instance_of};
+ghost use Rattle.ttp_model.specs.Parts.{instance_of};
 ghost use Rattle.instance_reasons.specs.Malformed.{HasStanding, IsMalformedName, IsNameFault, mended_name, standing_at, stands_at};
 
 use crate::parts::name_at;
 use crate::spots::{Spot, spot_at};
-use instance_text::Parts;
 use line_text::put_told;
 use sentences::Word::{Number, Piece, Text};
 use sentences::{Member, tell, write_members, write_members_and};
 use serde::{Described, Serialize, Serializer};
 use std::alloc::{AllocError, Global};
 use std::fmt;
-use ttp_model::{MOST_NAME_BYTES, Place, begins_name, continues_name};
+use ttp_model::{MOST_NAME_BYTES, Parts, Place, begins_name, continues_name};
 
 /// What is wrong with the bytes of a name.
 #[derive(Drop)]

@@ -3,11 +3,10 @@
 ghost use Rattle.std.specs.Prelude.{◌≡◌};
 ghost use Rattle.ttp_model.specs.Instance.{link_at, message_at, node_at, node_of, process_at};
 ghost use Rattle.ttp_model.specs.Names.{message_name, node_name, place_name, process_name};
-ghost use Rattle.instance_text.specs.Views.{instance_of};
+ghost use Rattle.ttp_model.specs.Parts.{instance_of};
 ghost use Rattle.instance_reasons.specs.Spots.{name_at};
 
-use instance_text::Parts;
-use ttp_model::{Link, Place};
+use ttp_model::{Link, Parts, Place};
 
 /// The name of a node, or an empty one where it isn't there.
 pub fn node_name(parts: &Parts, n: u32) -> &str

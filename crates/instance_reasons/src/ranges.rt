@@ -2,18 +2,19 @@
 
 ghost use Rattle.std.specs.Prelude.{◌≡◌, ◌<◌};
 ghost use Rattle.ttp_model.specs.Rules.{IsInRange};
-ghost use Rattle.instance_text.specs.Views.{instance_of};
+ghost use Rattle.ttp_model.specs.Parts.{instance_of};
 ghost use Rattle.instance_reasons.specs.Ranges.{IsOut, IsOutsideRange, Misses, cluster_outside, first_of, outside, outside_at, process_outside};
 
 use crate::parts::{Times, bytes_of, times_of};
 use crate::spots::{Spot, spot_at};
-use instance_text::{Key, Parts};
+use instance_text::Key;
 use sentences::Word::{Number, Text};
 use sentences::{Member, tell, write_members};
 use serde::{Described, Serialize, Serializer};
 use std::fmt;
 use ttp_model::{
-    Cluster, MOST_BUS_TICKS, MOST_BYTES, MOST_CHANNELS, MOST_HEAD, MOST_PER_BYTE, MOST_TICKS, Place,
+    Cluster, MOST_BUS_TICKS, MOST_BYTES, MOST_CHANNELS, MOST_HEAD, MOST_PER_BYTE, MOST_TICKS,
+    Parts, Place,
 };
 
 /// A number that is outside its range.

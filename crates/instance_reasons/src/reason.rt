@@ -8,13 +8,13 @@ ghost use Rattle.instance_reasons.specs.Reasons.{HasFault, IsReadAgain, IsReason
 use crate::grammar::{NotToml, not_toml};
 use crate::rules::{RuleReason, rule_reason};
 use crate::texts::{TextReason, text_reason};
-use instance_text::{Parts, TextError, document, stated_parts};
+use instance_text::{TextError, document, stated_parts};
 use serde::{Described, Serialize, Serializer};
 use std::alloc::Global;
 use std::fmt;
 use std::fmt::Display;
 use toml::Table;
-use ttp_model::MemoryFault;
+use ttp_model::{MemoryFault, Parts};
 
 /// What a refused text is once more, as far as a fault asks for it.
 #[derive(Drop)]

@@ -3,7 +3,7 @@
 ghost use Rattle.std.specs.Prelude.{◌≡◌, ◌≢◌, IfOk};
 ghost use Rattle.ttp_model.specs.Refusals.{IsRefusal};
 ghost use Rattle.ttp_model.specs.declared.error.ModelError.TheVariants as model;
-ghost use Rattle.instance_text.specs.Views.{instance_of};
+ghost use Rattle.ttp_model.specs.Parts.{instance_of};
 ghost use Rattle.instance_reasons.specs.Rules.{IsNoSuchIndex, IsRuleReason};
 
 use crate::capacities::{WrongCapacities, wrong_capacities};
@@ -18,13 +18,12 @@ use crate::ranges::{OutsideRange, outside_range};
 use crate::shared::{SharedName, shared_name};
 use crate::spots::{Spot, spot_at};
 use crate::times::{NoTime, ShortLead, ShortTrail, no_time, short_lead, short_trail};
-use instance_text::Parts;
 use sentences::{write_kind, write_members};
 use serde::{Described, Serialize, Serializer};
 use std::alloc::{AllocError, Global};
 use std::fmt;
 use std::fmt::Display;
-use ttp_model::{ModelError, Place};
+use ttp_model::{ModelError, Parts, Place};
 
 /// What names an index that isn't there, as no text can.
 #[derive(Clone, Copy)]

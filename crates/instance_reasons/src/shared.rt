@@ -3,17 +3,16 @@
 ghost use Rattle.std.specs.Prelude.{◌≡◌, ◌≢◌};
 ghost use Rattle.ttp_model.specs.Lists.{EachBelow, IsFirstFailure};
 ghost use Rattle.ttp_model.specs.Rules.{IsNewName};
-ghost use Rattle.instance_text.specs.Views.{instance_of};
+ghost use Rattle.ttp_model.specs.Parts.{instance_of};
 ghost use Rattle.instance_reasons.specs.Shared.{AreShared, IsSharedName, name_in};
 
 use crate::counts::entry_words;
 use crate::parts::{message_name, node_name, process_name};
-use instance_text::Parts;
 use sentences::Word::{Number, Text, Told};
 use sentences::{Member, tell, write_members};
 use serde::{Described, Serialize, Serializer};
 use std::fmt;
-use ttp_model::{Part, Place};
+use ttp_model::{Part, Parts, Place};
 
 /// A name that two entries of a list have.
 #[derive(Clone, Copy)]

@@ -2,16 +2,17 @@
 
 ghost use Rattle.std.specs.Prelude.{◌≡◌};
 ghost use Rattle.toml.specs.View.{table_view};
-ghost use Rattle.instance_text.specs.Views.{instance_of};
+ghost use Rattle.ttp_model.specs.Parts.{instance_of};
 ghost use Rattle.instance_reasons.specs.Spots.{IsSpot, IsTextSpot, index_of, table_of, table_word, text_name};
 
 use crate::{parts, tables};
-use instance_text::{Parts, Place};
+use instance_text::Place;
 use sentences::Word::{Number, Text, Told};
 use sentences::{Member, tell};
 use std::fmt;
 use std::fmt::Display;
 use toml::Table;
+use ttp_model::Parts;
 
 /// A place with the name that stands there: an empty one where there is none.
 #[derive(Clone, Copy)]

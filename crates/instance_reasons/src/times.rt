@@ -1,15 +1,15 @@
 //! By how many ticks is a time too short?
 
 ghost use Rattle.ttp_model.specs.Rules.{CanEndInTime, HasLead, HasTrail};
-ghost use Rattle.instance_text.specs.Views.{instance_of};
+ghost use Rattle.ttp_model.specs.Parts.{instance_of};
 ghost use Rattle.instance_reasons.specs.Times.{IsNoTime, IsShortLead, IsShortTrail};
 
 use crate::parts::{process_name, times_of};
-use instance_text::Parts;
 use sentences::Word::{Count, Number, Ticks, Told};
 use sentences::{Counted, Member, tell, write_members};
 use serde::{Described, Serialize, Serializer};
 use std::fmt;
+use ttp_model::Parts;
 
 /// So many ticks, of which it is said that they are lacking.
 fn lacking(ticks: u64) -> Counted {

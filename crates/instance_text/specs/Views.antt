@@ -1,4 +1,4 @@
--- What the code's tables and parts stand for.
+-- What the code's tables stand for.
 use Rattle.std.specs.Prelude.{List, map, String}
 use Rattle.std.specs.Borrow.{Bor}
 use Rattle.std.specs.BTreeMap.{BTreeMap}
@@ -6,8 +6,6 @@ use Rattle.std.specs.declared.alloc.Global.{Global}
 use Rattle.toml.specs.Data.{Members}
 use Rattle.toml.specs.View.{table_view}
 use Rattle.toml.specs.declared.value.Value.{Value}
-use Rattle.ttp_model.specs.Instance.{Instance, instance_with}
-use Rattle.instance_text.specs.declared.text.Parts.{Parts}
 use Rattle.instance_text.specs.declared.top.Tables.{Tables as CodeTables}
 use Rattle.instance_text.specs.Stated.{Tables}
 
@@ -24,8 +22,3 @@ tables_view tables = record {
   links = table_views tables.links.items;
   messages = table_views tables.messages.items;
 }
-
--- the instance that these parts are
-abbrev pub instance_of : Parts → Instance
-instance_of ps =
-    instance_with ps.cluster ps.nodes.items ps.processes.items ps.links.items ps.messages.items

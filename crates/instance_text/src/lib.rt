@@ -20,4 +20,4 @@ mod written_tables;
 pub use error::{Key, Place, TextError};
 pub use keys::{has_key, keys_at};
 pub use printing::{PrintFault, print};
-pub use text::{Parts, document, read, stated_parts};
+pub use text::{document, read, stated_parts};

@@ -8,7 +8,8 @@ ghost use Rattle.ttp_model.specs.Rules.{IsInstance};
 ghost use Rattle.instance_text.specs.Faults.{IsFaultOfPart, IsDocument, IsTextFault, States, IsFirstTextFault};
 ghost use Rattle.instance_text.specs.Stated.{stated_by, stated_in, processes_of, node_names};
 ghost use Rattle.instance_text.specs.Index.{cut_index_in};
-ghost use Rattle.instance_text.specs.Views.{instance_of, table_views, tables_view};
+ghost use Rattle.ttp_model.specs.Parts.{instance_of};
+ghost use Rattle.instance_text.specs.Views.{table_views, tables_view};
 ghost use Rattle.instance_text.specs.declared.error.TextError.TheVariants.{OutOfMemory};
 
 use crate::error::TextError;
@@ -18,17 +19,7 @@ use crate::{cluster, links, messages, nodes, processes, top};
 use std::alloc::Global;
 use std::str;
 use toml::Table;
-use ttp_model::{Cluster, Instance, Link, Message, Node, Process};
-
-/// The parts of an instance, before they are judged.
-#[derive(Drop)]
-pub struct Parts {
-    pub cluster: Cluster,
-    pub nodes: Vec<Node>,
-    pub processes: Vec<Process>,
-    pub links: Vec<Link>,
-    pub messages: Vec<Message>,
-}
+use ttp_model::{Instance, Node, Parts, Process};
 
 /// The top table that the bytes are. Takes no memory for bytes that are no UTF-8.
 pub fn document(alloc: Global, bytes: &[u8]) -> Result<Table, TextError>

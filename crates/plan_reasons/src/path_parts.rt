@@ -43,7 +43,7 @@ fn lead_back(
     ensures { OnOk result (IsChain instance.now parts.new.items) }
 {
     let _nodes = instance.nodes();
-    let last = last_to_end(instance, ends);
+    let last = last_of(instance, ends);
     let mut next = Some(last);
     'back: while let Some(p) = next {
         let part = part_of(instance, ends, p);
@@ -54,7 +54,7 @@ fn lead_back(
 }
 
 /// The first of the processes whose longest chains end last.
-fn last_to_end(instance: &Instance, ends: &[u64]) -> u32
+fn last_of(instance: &Instance, ends: &[u64]) -> u32
     requires { AreLongest instance.now ends.now }
     ensures { EndsLast instance.now ends.now result }
 {

@@ -42,7 +42,7 @@ pub use limits::{
 pub use links::has_link;
 pub use name::{Name, begins_name, continues_name, is_name};
 pub use numbers::Numbers;
-pub use parts::{Cluster, Link, Message, Node, Process};
+pub use parts::{Cluster, Link, Message, Node, Parts, Process};
 pub use plan::Plan;
 pub use slots::slot_duration;
 pub use step::{Kind, Leaf, Ring, Step, Steps};

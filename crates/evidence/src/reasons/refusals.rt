@@ -6,7 +6,7 @@ ghost use Rattle.ttp_model.specs.Names.{process_name};
 ghost use Rattle.ttp_model.specs.Refusals.{IsRefusal};
 ghost use Rattle.ttp_model.specs.declared.error.ModelError.TheVariants as model;
 ghost use Rattle.ttp_model.specs.declared.error.Place.TheVariants.{AtMessage, AtNode};
-ghost use Rattle.instance_text.specs.Views.{instance_of};
+ghost use Rattle.ttp_model.specs.Parts.{instance_of};
 ghost use Rattle.instance_reasons.specs.declared.circles.Circle.{Circle};
 ghost use Rattle.instance_reasons.specs.declared.circles.CircleStep.{CircleStep};
 ghost use Rattle.instance_reasons.specs.declared.joins.ReceiverTwice.{ReceiverTwice};
@@ -16,9 +16,8 @@ ghost use Rattle.instance_reasons.specs.declared.shared.SharedName.{SharedName};
 ghost use Rattle.instance_reasons.specs.declared.times.ShortLead.{ShortLead};
 
 use instance_reasons::{RuleReason, rule_reason};
-use instance_text::Parts;
 use std::alloc::{AllocError, Global};
-use ttp_model::{ModelError, Place};
+use ttp_model::{ModelError, Parts, Place};
 
 /// A lead has to be twice the precision, and not once.
 pub fn lead_lacks_twice_the_precision(

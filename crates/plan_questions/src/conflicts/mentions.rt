@@ -3,7 +3,7 @@
 use certificate::{Cert, Node};
 use instance_variants::{Constraint, Constraints, Flags};
 use std::alloc::{AllocError, Global};
-use ttp_model::{Instance, Kind, Leaf, MemoryFault, Step};
+use ttp_model::{Instance, Kind, Leaf, MemoryFault, Step, has_flag, put_flag};
 
 /// Of which constraints of an instance the branches and steps of a certificate speak, by flags. Nothing rests on it.
 #[derive(Drop)]
@@ -42,21 +42,11 @@ fn unset(alloc: Global, count: usize) -> Result<Vec<bool>, AllocError> {
     Ok(flags)
 }
 
-fn has(flags: &[bool], place: usize) -> bool {
-    place < flags.len() && flags[place]
-}
-
-fn set(flags: &mut Vec<bool>, place: usize) {
-    if place < flags.len() {
-        flags[place] = true;
-    }
-}
-
 /// Sets the flag of what has this index among those that are kept.
-fn set_kept(flags: &mut Vec<bool>, places: &[usize], index: u32) {
+fn set_kept(flags: &mut [bool], places: &[usize], index: u32) {
     let index = index as usize;
     if index < places.len() {
-        set(flags, places[index]);
+        put_flag(flags, places[index], true);
     }
 }
 
@@ -98,11 +88,11 @@ impl Mentions {
     pub fn has(&self, constraint: Constraint) -> bool {
         match constraint {
             Constraint::Horizon => self.horizon,
-            Constraint::Deadline(p) => has(self.deadlines.as_slice(), p),
-            Constraint::Release(p) => has(self.releases.as_slice(), p),
-            Constraint::Link(l) => has(self.links.as_slice(), l),
-            Constraint::Message(m) => has(self.messages.as_slice(), m),
-            Constraint::Both(m) => has(self.messages.as_slice(), m),
+            Constraint::Deadline(p) => has_flag(&self.deadlines, p),
+            Constraint::Release(p) => has_flag(&self.releases, p),
+            Constraint::Link(l) => has_flag(&self.links, l),
+            Constraint::Message(m) => has_flag(&self.messages, m),
+            Constraint::Both(m) => has_flag(&self.messages, m),
         }
     }
 
@@ -136,9 +126,11 @@ impl Mentions {
     /// Adds what a step names, and says whether that is a deadline.
     fn add_step(&mut self, site: &Site<'_>, step: &Step) -> bool {
         match step {
-            Step::EsRelease(p) => set(&mut self.releases, *p as usize),
+            Step::EsRelease(p) => {
+                put_flag(&mut self.releases, *p as usize, true);
+            }
             Step::LeOwn(p) => {
-                set(&mut self.deadlines, *p as usize);
+                put_flag(&mut self.deadlines, *p as usize, true);
                 return site.kept.deadlines.has(*p as usize);
             }
             Step::EsLink(l) | Step::LeLink(l) => set_kept(&mut self.links, site.links, *l),
@@ -169,7 +161,7 @@ impl Mentions {
     /// All messages of a node may be in its frames.
     fn add_frames(&mut self, site: &Site<'_>, n: u32) {
         for m in site.instance.messages_of(n) {
-            set(&mut self.messages, *m as usize);
+            put_flag(&mut self.messages, *m as usize, true);
         }
     }
 }

@@ -1,5 +1,5 @@
 use Rattle.std.proofs.Common.{◌≡◌, length, arith}
-use Rattle.instance_text.specs.Views.{instance_of}
+use Rattle.ttp_model.specs.Parts.{instance_of}
 use Rattle.instance_reasons.specs.Circles.{IsCircleStep}
 use Rattle.instance_reasons.proofs.Listing.{counted_more}
 use Rattle.instance_reasons.proofs.circles.circle_of.Goals as goal

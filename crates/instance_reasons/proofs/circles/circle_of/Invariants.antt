@@ -1,6 +1,6 @@
 use Rattle.std.specs.List.{range_with_len}
 use Rattle.sentences.specs.Lists.{AreTold}
-use Rattle.instance_text.specs.Views.{instance_of}
+use Rattle.ttp_model.specs.Parts.{instance_of}
 use Rattle.instance_reasons.specs.Circles.{IsCircleStep}
 use Rattle.instance_reasons.proofs.circles.circle_of.Given as goal
 

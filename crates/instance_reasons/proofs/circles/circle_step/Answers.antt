@@ -1,4 +1,4 @@
-use Rattle.instance_text.specs.Views.{instance_of}
+use Rattle.ttp_model.specs.Parts.{instance_of}
 use Rattle.instance_reasons.proofs.Walking.{step_leads}
 use Rattle.instance_reasons.proofs.circles.circle_step.Goals as goal
 

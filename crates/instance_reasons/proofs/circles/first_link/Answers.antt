@@ -1,5 +1,5 @@
 use Rattle.std.proofs.Common.{arith}
-use Rattle.instance_text.specs.Views.{instance_of}
+use Rattle.ttp_model.specs.Parts.{instance_of}
 use Rattle.instance_reasons.proofs.Walking.{no_link}
 use Rattle.instance_reasons.proofs.circles.first_link.Goals as goal
 

@@ -1,6 +1,6 @@
 use Rattle.std.proofs.Common.{◌∙◌, arith, below_more, sym}
 use Rattle.std.proofs.lemmas.Bool.{false≢true}
-use Rattle.instance_text.specs.Views.{instance_of}
+use Rattle.ttp_model.specs.Parts.{instance_of}
 use Rattle.instance_reasons.specs.Circles.{MessageLeads}
 use Rattle.instance_reasons.proofs.Walking.{no_message}
 use Rattle.instance_reasons.proofs.circles.first_message.Goals as goal

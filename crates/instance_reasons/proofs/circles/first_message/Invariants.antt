@@ -1,5 +1,5 @@
 use Rattle.ttp_model.specs.Lists.{EachBelow}
-use Rattle.instance_text.specs.Views.{instance_of}
+use Rattle.ttp_model.specs.Parts.{instance_of}
 use Rattle.instance_reasons.specs.Circles.{MessageLeads}
 use Rattle.instance_reasons.proofs.circles.first_message.Given as goal
 

@@ -1,7 +1,7 @@
 use Rattle.std.proofs.Common.{◌≡◌}
 use Rattle.std.proofs.lemmas.List.{get_or_read}
 use Rattle.ttp_model.specs.Instance.{message_at, no_message}
-use Rattle.instance_text.specs.Views.{instance_of}
+use Rattle.ttp_model.specs.Parts.{instance_of}
 use Rattle.instance_reasons.proofs.circles.message_leads.Goals as goal
 
 pub returns-then-message-p : goal.returns-then-message-p

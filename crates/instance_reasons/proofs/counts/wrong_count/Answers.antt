@@ -1,5 +1,5 @@
 use Rattle.std.proofs.Common.{◌<◌, arith}
-use Rattle.instance_text.specs.Views.{instance_of}
+use Rattle.ttp_model.specs.Parts.{instance_of}
 use Rattle.instance_reasons.specs.Counts.{count_of}
 use Rattle.instance_reasons.proofs.Failing.{many}
 use Rattle.instance_reasons.proofs.counts.wrong_count.Goals as goal

@@ -1,4 +1,4 @@
-use Rattle.instance_text.specs.Views.{instance_of}
+use Rattle.ttp_model.specs.Parts.{instance_of}
 use Rattle.instance_reasons.proofs.Failing.{not_name}
 use Rattle.instance_reasons.proofs.malformed.malformed_name.Goals as goal
 

@@ -1,5 +1,5 @@
 use Rattle.std.proofs.Common.{◌∙◌, sym}
-use Rattle.instance_text.specs.Views.{instance_of}
+use Rattle.ttp_model.specs.Parts.{instance_of}
 use Rattle.instance_reasons.proofs.Missing.{out_told, some_out}
 use Rattle.instance_reasons.proofs.ranges.outside_range.Goals as goal
 

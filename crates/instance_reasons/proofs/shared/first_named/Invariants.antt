@@ -1,6 +1,6 @@
 use Rattle.std.proofs.Common.{◌≢◌}
 use Rattle.ttp_model.specs.Lists.{EachBelow}
-use Rattle.instance_text.specs.Views.{instance_of}
+use Rattle.ttp_model.specs.Parts.{instance_of}
 use Rattle.instance_reasons.specs.Shared.{name_in}
 use Rattle.instance_reasons.proofs.shared.first_named.Given as goal
 

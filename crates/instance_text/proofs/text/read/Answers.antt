@@ -7,7 +7,7 @@ use Rattle.instance_text.specs.Index.{cut_index_in}
 use Rattle.instance_text.specs.Kinds.{Stated}
 use Rattle.instance_text.specs.Stated.{stated_by}
 use Rattle.instance_text.specs.Told.{told}
-use Rattle.instance_text.specs.Views.{instance_of}
+use Rattle.ttp_model.specs.Parts.{instance_of}
 use Rattle.toml.specs.View.{table_view}
 use Rattle.instance_text.proofs.FaultLaws.{handed, only_memory, states_by, table_fault, refusal_told}
 use Rattle.instance_text.proofs.CutIndices.{fault_kept, only_stated, refusal_kept, stated_uncut}

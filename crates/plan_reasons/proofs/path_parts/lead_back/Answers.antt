@@ -12,8 +12,8 @@ pub returns : goal.returns
 returns c = record {
   ends = c.args.ends.now;
   longest = c.requires.longest;
-  last = c.last_to_end-last.result;
-  ends_last = c.last_to_end-last.ensures;
-  leads_back = no_more c.args.instance.now c.args.ends.now (Some c.last_to_end-last.result) c.back.next c.back.parts.items
+  last = c.last_of-last.result;
+  ends_last = c.last_of-last.ensures;
+  leads_back = no_more c.args.instance.now c.args.ends.now (Some c.last_of-last.result) c.back.next c.back.parts.items
       c.back.invariant.leads c.in_default.is;
 }

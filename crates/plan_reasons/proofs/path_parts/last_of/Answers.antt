@@ -1,6 +1,6 @@
 use Rattle.std.proofs.Common.{◌<◌, length, arith}
 use Rattle.plan_reasons.proofs.Holding.{is_last}
-use Rattle.plan_reasons.proofs.path_parts.last_to_end.Goals as goal
+use Rattle.plan_reasons.proofs.path_parts.last_of.Goals as goal
 
 pub returns : goal.returns
 returns c =
