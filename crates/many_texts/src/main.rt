@@ -1,9 +1,12 @@
-//! Asks commands about many texts in one process: cases come one after another on standard input, and each is answered
-//! before the next is read. Serves tests alone.
+//! Asks commands about many texts in one process, and parts of a search what no command shows: cases come one after another on standard
+//! input, and each is answered before the next is read. Serves tests alone.
 #![tactic(auto)]
 
 ghost use Rattle.std.specs.Prelude.{◌≤◌};
 ghost use Rattle.plan_picture.specs.Limits.{least_width, most_width};
+
+mod events;
+mod searching;
 
 use command_streams::{End, report, status, take_input, write_text};
 use explain_command::{explain_certificate, explain_instance, explain_plan};
@@ -15,12 +18,13 @@ use plan_commands::{
 };
 use plan_picture::{LEAST_WIDTH, MOST_WIDTH, Shown};
 use plan_sheets::Table;
+use searching::{Part, part_of, tell};
 use std::alloc::{Alloc, AllocError, Global};
 use std::io::{Read, Write};
 use std::process::ExitCode;
 use std::str::{Utf8Error, from_utf8};
 use std::thread::Threads;
-use ttp_model::MOST_TICKS;
+use ttp_model::{MOST_TICKS, MemoryFault};
 
 /// The bytes of a header: a command's word and the lengths of its texts, each with a space behind it, and anything up to
 /// its end.
@@ -35,6 +39,12 @@ struct Stopped(&'static str);
 
 impl From<AllocError> for Stopped {
     fn from(_error: AllocError) -> Stopped {
+        Stopped("memory was refused")
+    }
+}
+
+impl From<MemoryFault> for Stopped {
+    fn from(_fault: MemoryFault) -> Stopped {
         Stopped("memory was refused")
     }
 }
@@ -64,10 +74,17 @@ enum Command {
     Compare,
 }
 
+/// What a case asks for.
+#[derive(Clone, Copy)]
+enum Asked {
+    Command(Command),
+    Part(Part),
+}
+
 /// What a case asks for, and the lengths of its texts. The second text of a bundle, or of an instance that is explained alone, isn't looked at.
 #[derive(Clone, Copy)]
 struct Header {
-    command: Command,
+    asked: Asked,
     first: u32,
     second: u32,
     third: u32,
@@ -78,7 +95,7 @@ struct Header {
 /// compared.
 #[derive(Drop)]
 struct Case {
-    command: Command,
+    asked: Asked,
     first: Vec<u8>,
     second: Vec<u8>,
     third: Vec<u8>,
@@ -112,16 +129,27 @@ fn length_of(word: &[u8]) -> Option<u32> {
     }
 }
 
+/// What a header's word asks for.
+fn asked_by(word: &[u8]) -> Option<Asked> {
+    match command_of(word) {
+        Some(command) => Some(Asked::Command(command)),
+        None => Some(Asked::Part(part_of(word)?)),
+    }
+}
+
 /// How many texts a case has, or words in a text's place.
-fn texts_of(command: Command) -> u32 {
-    match command {
-        Command::Rounds
-        | Command::Period
-        | Command::Replay
-        | Command::Judge
-        | Command::Schedule
-        | Command::Draw => 3,
-        Command::Compare => 4,
+fn texts_of(asked: Asked) -> u32 {
+    match asked {
+        Asked::Command(
+            Command::Rounds
+            | Command::Period
+            | Command::Replay
+            | Command::Judge
+            | Command::Schedule
+            | Command::Draw,
+        )
+        | Asked::Part(Part::Without | Part::Hands) => 3,
+        Asked::Command(Command::Compare) => 4,
         _ => 2,
     }
 }
@@ -139,11 +167,11 @@ fn header_of(bytes: &[u8]) -> Option<Header> {
     let (command, rest) = cut(b' ', bytes)?;
     let (first, rest) = cut(b' ', rest)?;
     let (second, rest) = cut(b' ', rest)?;
-    let command = command_of(command)?;
-    let (third, rest) = next_length(texts_of(command) > 2, rest)?;
-    let (fourth, _) = next_length(texts_of(command) > 3, rest)?;
+    let asked = asked_by(command)?;
+    let (third, rest) = next_length(texts_of(asked) > 2, rest)?;
+    let (fourth, _) = next_length(texts_of(asked) > 3, rest)?;
     Some(Header {
-        command,
+        asked,
         first: length_of(first)?,
         second: length_of(second)?,
         third,
@@ -180,7 +208,7 @@ fn next_case<R: Read>(alloc: Global, input: &mut R) -> Result<Option<Case>, Stop
         return Err(Stopped("a header is malformed"));
     };
     Ok(Some(Case {
-        command: header.command,
+        asked: header.asked,
         first: next_text(alloc, input, header.first)?,
         second: next_text(alloc, input, header.second)?,
         third: next_text(alloc, input, header.third)?,
@@ -267,12 +295,13 @@ fn compared_of<W: Write>(alloc: Global, case: &Case, out: &mut W) -> End {
 fn end_of<W: Write>(
     rt: &(impl Threads + Sync),
     alloc: Global,
+    command: Command,
     case: &Case,
     words: &[&str],
     out: &mut W,
 ) -> End {
     let (mut first, mut second) = (case.first.as_slice(), case.second.as_slice());
-    match case.command {
+    match command {
         Command::Verify => verify(alloc, &mut first, &mut second, out),
         Command::Bundle => verify_bundle(alloc, &mut first, out),
         Command::Tables => tables(alloc, &mut first, &mut second, out),
@@ -315,30 +344,39 @@ fn end_of<W: Write>(
     }
 }
 
-/// A command's status, the lengths of what it writes on standard output and on standard error, and both.
+/// A status, the lengths of what is written on standard output and on standard error, and both.
+fn framed(alloc: Global, status: u8, out: &[u8], error: &[u8]) -> Result<Vec<u8>, AllocError> {
+    let mut answer = Vec::new(alloc);
+    push_number(&mut answer, u64::from(status))?;
+    push_number_word(&mut answer, out.len() as u64)?;
+    push_number_word(&mut answer, error.len() as u64)?;
+    answer.push(b'\n')?;
+    answer.extend_from_slice(out)?;
+    answer.extend_from_slice(error)?;
+    Ok(answer)
+}
+
+/// What a command answers.
 fn answer_of(
     rt: &(impl Threads + Sync),
     alloc: Global,
+    command: Command,
     case: &Case,
     words: &[&str],
 ) -> Result<Vec<u8>, AllocError> {
     let (mut out, mut error) = (Vec::new(alloc), Vec::new(alloc));
-    let end = end_of(rt, alloc, case, words, &mut out);
+    let end = end_of(rt, alloc, command, case, words, &mut out);
     let _ = report(&end, &mut error);
-    let mut answer = Vec::new(alloc);
-    push_number(&mut answer, u64::from(status(&end)))?;
-    push_number_word(&mut answer, out.len() as u64)?;
-    push_number_word(&mut answer, error.len() as u64)?;
-    answer.push(b'\n')?;
-    answer.extend_from_slice(out.as_slice())?;
-    answer.extend_from_slice(error.as_slice())?;
-    Ok(answer)
+    framed(alloc, status(&end), out.as_slice(), error.as_slice())
 }
 
 /// The words of a case.
 fn words_of<'a>(alloc: Global, case: &'a Case) -> Result<Vec<&'a str>, Stopped> {
-    match case.command {
-        Command::Rounds | Command::Period | Command::Replay | Command::Schedule | Command::Draw => {
+    match case.asked {
+        Asked::Command(
+            Command::Rounds | Command::Period | Command::Replay | Command::Schedule | Command::Draw,
+        )
+        | Asked::Part(Part::Without | Part::Hands) => {
             Ok(words_in(alloc, from_utf8(case.third.as_slice())?)?)
         }
         _ => Ok(Vec::new(alloc)),
@@ -348,7 +386,14 @@ fn words_of<'a>(alloc: Global, case: &'a Case) -> Result<Vec<&'a str>, Stopped> 
 /// The answer to a case.
 fn answer_to(rt: &(impl Threads + Sync), alloc: Global, case: &Case) -> Result<Vec<u8>, Stopped> {
     let words = words_of(alloc, case)?;
-    Ok(answer_of(rt, alloc, case, words.as_slice())?)
+    match case.asked {
+        Asked::Command(command) => Ok(answer_of(rt, alloc, command, case, words.as_slice())?),
+        Asked::Part(part) => {
+            let mut text = Vec::new(alloc);
+            tell(alloc, part, case, words.as_slice(), &mut text)?;
+            Ok(framed(alloc, 0, text.as_slice(), b"")?)
+        }
+    }
 }
 
 /// Answers all cases of the input.

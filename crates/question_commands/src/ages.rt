@@ -19,7 +19,7 @@ use endless_schedules::{Aging, unroll, with_bound};
 use plan_questions::{Asking, Gate, LeastAge, least_age};
 use rates_command::{RatesEnd, RatesFault, read_rates};
 use rates_model::Rates;
-use search_watching::told_as;
+use solve_command::told_as;
 use std::io::{Read, Write};
 use std::marker::Sync;
 use std::sync::Wait;

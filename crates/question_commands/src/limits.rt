@@ -13,7 +13,7 @@ use crate::limit_texts::{Beside, texts_of};
 use crate::names::processes_of;
 use command_streams::{End, Fault, Texts, read_instance, write_texts};
 use plan_questions::{Asking, EndLimit, Gate, least_end};
-use search_watching::told_as;
+use solve_command::told_as;
 use std::io::{Read, Write};
 use std::marker::Sync;
 use std::sync::Wait;

@@ -15,7 +15,7 @@ use crate::margin_texts::{Runs, texts_of};
 use crate::meant::meant_by;
 use command_streams::{End, Fault, Texts, read_instance, write_texts};
 use plan_questions::{Asking, Gate, Margin, Scale, greatest_margin, with_horizon};
-use search_watching::told_as;
+use solve_command::told_as;
 use std::io::{Read, Write};
 use std::marker::Sync;
 use std::sync::Wait;

@@ -13,7 +13,7 @@ use crate::words::{late_line, need_line, others_text};
 use command_streams::{Fault, Sink, write_text};
 use instance_variants::Constraint;
 use plan_questions::{Asking, Conflict, Gate, Lateness, Need, least_lateness, marked, next_need};
-use search_watching::told_as;
+use solve_command::told_as;
 use std::alloc::Global;
 use std::io::Write;
 use std::marker::Sync;

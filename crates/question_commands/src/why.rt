@@ -15,7 +15,7 @@ use crate::why_texts::{Wanted, files_of, write_files};
 use crate::words::plan_text;
 use command_streams::{End, Fault, read_instance};
 use plan_questions::{Asking, Conflict, FirstAnswer, Gate, first_answer};
-use search_watching::told_as;
+use solve_command::told_as;
 use std::alloc::Global;
 use std::io::{Read, Write};
 use std::marker::Sync;

@@ -10,7 +10,7 @@ use Rattle.planner.specs.outcome.Why.{Why}
 use Rattle.planner.specs.outcome.Why.TheVariants as why
 use Rattle.planner.specs.Answers.{IsCause, IsOutcome}
 use Rattle.planner.specs.Ends.{IsNear}
-use Rattle.search_watching.specs.Patience.{is_enough, IsEnough}
+use Rattle.solve_command.specs.Patience.{is_enough, IsEnough}
 use Rattle.solve_command.specs.Solved.{why_word}
 
 enough_is : (until best : Option ℕ) → is_enough until best ≡ true → IsEnough until best

@@ -18,7 +18,7 @@ use Rattle.command_streams.specs.declared.limits.TheConstants.{LONG_CERTIFICATE_
 use Rattle.command_streams.specs.Instances.{HasInstance, IsInstanceFault}
 use Rattle.plan_commands.specs.Certified.{HasProof, IsCertificateFault}
 use Rattle.plan_commands.specs.Printed.{HasPrintedPlan, IsUnprinted}
-use Rattle.search_watching.specs.Faults.{told_as}
+use Rattle.solve_command.specs.Faults.{told_as}
 use Rattle.solve_command.specs.declared.onward.Outset.{Outset}
 use Rattle.solve_command.specs.declared.onward.Continuation.{Continuation}
 use Rattle.solve_command.specs.declared.solve.Solved.{Solved}

@@ -1,3 +1,7 @@
+pub mod Beside
+pub mod Faults
+pub mod Kept
+pub mod Patience
 pub mod Continued
 pub use Rattle.planner.specs.Onward
 pub mod Telling

@@ -15,7 +15,7 @@ use Rattle.planner.specs.Answers as answers
 use Rattle.solve_command.specs.declared.solve.Enough.{Enough}
 use Rattle.solve_command.specs.declared.solve.Solved.{Solved}
 use Rattle.planner.specs.Searching.{limit_of}
-use Rattle.search_watching.specs.Patience.{is_enough}
+use Rattle.solve_command.specs.Patience.{is_enough}
 use Rattle.plan_commands.specs.declared.verdict.Verified.{Verified}
 use Rattle.plan_commands.specs.Printed.{HasPrintedPlan, IsPrinted, IsUnprinted}
 use Rattle.command_streams.specs.declared.ending.Source.TheVariants as source

@@ -9,7 +9,7 @@ ghost use Rattle.planner.specs.outcome.Outcome.TheVariants.{Stopped};
 ghost use Rattle.planner.specs.outcome.Why.{Why};
 ghost use Rattle.planner.specs.Answers.{IsOutcome};
 ghost use Rattle.planner.specs.Ends.{IsNear};
-ghost use Rattle.search_watching.specs.Patience.{is_enough, IsEnough};
+ghost use Rattle.solve_command.specs.Patience.{is_enough, IsEnough};
 ghost use Rattle.solve_command.specs.Solved.{why_word};
 
 /// Where a search stopped by the word `until`, its best plan takes at most as long as was asked for.

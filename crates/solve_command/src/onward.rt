@@ -18,12 +18,13 @@ ghost use Rattle.planner.specs.Searching.{limit_of};
 ghost use Rattle.solve_command.specs.Continued.{fault_of, Gives, HasNoStart, IsBegun, IsNoOnward, IsOnwardAnswer, IsOnwardOf, IsSolvedOn, IsUnsolvedOn, rest_of};
 ghost use Rattle.solve_command.specs.Telling.{held, left};
 
+use crate::faults::told_as;
+use crate::progress::Follower;
 use crate::solve::{Asked, Solved, answer_text, tell, tell_certified};
 use certificate::Cert;
 use command_streams::{End, Fault, read_instance};
 use plan_commands::{Verified, printed_of_readers, read_proof};
 use planner::{OnFault, Onward, Outcome, Portion, Site, solve_on};
-use search_watching::{Follower, told_as};
 use std::alloc::Global;
 use std::io::{Read, Write};
 use std::marker::Sync;

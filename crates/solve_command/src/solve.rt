@@ -16,13 +16,15 @@ ghost use Rattle.ttp_model.specs.Answers.{IsBestPlan};
 ghost use Rattle.solve_command.specs.Solved.{best_word, stopped_line, why_word, IsAnswerText, IsNoSearch, IsSearchOf, IsSolveAnswer, IsSolved, IsSolvedFrom, IsStartedAnswer, IsStoppedText, IsUnsolved, IsUnsolvedFrom};
 ghost use Rattle.solve_command.specs.Telling.{end_told, held, left, IsCertifying, IsTellingOf, IsWritingTo};
 
+use crate::faults::told_as;
+use crate::patience::is_enough;
+use crate::progress::Follower;
 use certificate::Cert;
 use command_streams::{End, Fault, Sink, read_instance, write_text};
 use plan_commands::{Verified, printed_of_readers};
 use planner::{
     FoundPlan, FreeGate, Options, Outcome, Site, SolveFault, Why, solve_towards, solve_wide,
 };
-use search_watching::{Follower, is_enough, told_as};
 use std::alloc::{AllocError, Global};
 use std::fmt;
 use std::io::{Read, Write};

@@ -3,7 +3,7 @@
 ghost use Rattle.std.specs.Prelude.{◌≡◌, ◌<◌, ◌⊎◌, ℕ, List, IfOk, IfSome, Some, cond, min, true};
 ghost use Rattle.ttp_model.specs.Delays.{delay};
 ghost use Rattle.ttp_model.specs.Plans.{IsValid};
-ghost use Rattle.search_watching.specs.Kept.{kept_end, HoldsNoBetter, IsPlanText};
+ghost use Rattle.solve_command.specs.Kept.{kept_end, HoldsNoBetter, IsPlanText};
 
 use crate::folder::{Folder, replaced};
 use crate::progress::Follower;

@@ -1,6 +1,6 @@
 use Rattle.std.proofs.Common.{◌≡◌, ℕ, ◌≤◌, Option, Some, None, arith, sym, subst}
-use Rattle.search_watching.specs.Kept.{IsPlanText}
-use Rattle.search_watching.proofs.keeping.Shelf.begin.Goals as goal
+use Rattle.solve_command.specs.Kept.{IsPlanText}
+use Rattle.solve_command.proofs.keeping.Shelf.begin.Goals as goal
 
 at_most : (found : Option ℕ) (ticks held : ℕ) → found ≡ Some ticks → found ≡ Some held → ticks ≤ held
 at_most found ticks held a b = grind arith

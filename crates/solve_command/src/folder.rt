@@ -1,8 +1,8 @@
 //! How does a text take the place of what a file holds?
 
 ghost use Rattle.std.specs.Prelude.{◌≡◌, ◌≢◌, ◌⊎◌, ℕ, List, IfOk, IfSome, string_bytes, true};
-ghost use Rattle.search_watching.specs.Beside.{name_beside};
-ghost use Rattle.search_watching.specs.declared.folder.Made.TheVariants.{Whole};
+ghost use Rattle.solve_command.specs.Beside.{name_beside};
+ghost use Rattle.solve_command.specs.declared.folder.Made.TheVariants.{Whole};
 
 use std::alloc::{AllocError, Global};
 

@@ -1,7 +1,7 @@
 //! As what is it told that a search has no answer?
 
 ghost use Rattle.std.specs.Prelude.{◌≡◌};
-ghost use Rattle.search_watching.specs.Faults.{told_as};
+ghost use Rattle.solve_command.specs.Faults.{told_as};
 
 use command_streams::SearchFault;
 use planner::SolveFault;

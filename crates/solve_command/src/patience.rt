@@ -2,7 +2,7 @@
 
 ghost use Rattle.std.specs.Prelude.{◌≡◌};
 ghost use Rattle.std.specs.Prelude.{IsTrue, is_some, true};
-ghost use Rattle.search_watching.specs.Patience.{is_enough, MayEnd};
+ghost use Rattle.solve_command.specs.Patience.{is_enough, MayEnd};
 
 use crate::progress::Follower;
 use planner::{FoundPlan, Gate, Name};
@@ -91,7 +91,7 @@ impl<'a, S: Clock, F: Follower> Patient<'a, S, F> {
 
 impl<'a, S: Clock, F: Follower> Gate for Patient<'a, S, F> {
     ghost use Rattle.std.specs.Prelude.{◌⊎◌};
-    ghost use Rattle.search_watching.specs.Patience.{MayEnd};
+    ghost use Rattle.solve_command.specs.Patience.{MayEnd};
 
     ghost ends = { λ x. F.ends x.follower.now ⊎ MayEnd x.patience.until x.patience.seconds };
 

@@ -1,7 +1,7 @@
 use Rattle.std.proofs.Common.{subst}
 use Rattle.branch_tree.specs.declared.worked.Worked.{Worked}
 use Rattle.branch_tree.specs.Work.{IsWorked, IsSplit}
-use Rattle.search_tests.proofs.sharing.children.Goals as goal
+use Rattle.many_texts.proofs.searching.children.Goals as goal
 
 pub returns-in-Ok-Split : goal.returns-in-Ok-Split
 returns-in-Ok-Split c =

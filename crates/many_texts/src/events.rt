@@ -1,8 +1,8 @@
-//! Do events of a search succeed where there is memory? What each comes to then is determined by their contracts.
+//! Do events of a search's core succeed where there is memory? What each comes to then is determined by their contracts.
 
-use search_core::{Event, Worked, World};
+use crate::Stopped;
+use search_core::{Event, Illegal, Worked, World};
 use std::alloc::Global;
-use std::test::Fail;
 use ttp_model::{Kind, Leaf, Steps};
 
 /// A leaf without steps.
@@ -35,11 +35,15 @@ fn event(alloc: Global, turn: u32) -> Event {
     }
 }
 
-#[test]
-fn a_stolen_root_is_split_and_shared(rt: HostRuntime) -> Result<(), Fail> {
-    let mut world = World::start(rt.alloc(), 2, 101)?;
+/// How many events succeed, one after another: all there are, unless memory is refused or an event isn't taken.
+pub fn succeed(alloc: Global) -> Result<u32, Stopped> {
+    let mut world = World::start(alloc, 2, 101)?;
     for turn in 0..EVENTS {
-        world.step(rt.alloc(), event(rt.alloc(), turn))?;
+        match world.step(alloc, event(alloc, turn)) {
+            Ok(_) => {}
+            Err(Illegal::OutOfMemory) => return Err(Stopped("memory was refused")),
+            Err(_) => return Err(Stopped("an event isn't taken")),
+        }
     }
-    Ok(())
+    Ok(EVENTS)
 }

@@ -1,4 +1,0 @@
-pub mod Beside
-pub mod Faults
-pub mod Kept
-pub mod Patience
