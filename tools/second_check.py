@@ -37,7 +37,7 @@ Anything else is told in one line on standard error, with the words and the stat
 `repeat` by its unrolled instance, and once more by the jobs of six cycles: where the two differ the line is `repeat wrong`, with what is,
 and the status 1.
 It was written from docs/FORMATS.md and docs/CERTIFICATES.md alone, but for the elements and colours of a picture, which stand in
-crates/plan_picture/specs, and is proved in no way: where it and ttplan differ, a
+crates/plan_sheets/specs, and is proved in no way: where it and ttplan differ, a
 document is wrong, or one of the two programs is.
 
 It looks for nothing by itself. So why there is no plan is asked of ttplan: the instance by the constraints that are told has to be the

@@ -15,7 +15,7 @@ use Rattle.command_line.specs.declared.words.Task.TheVariants.{Draw}
 use Rattle.command_line.specs.declared.words.RoundsTask.{RoundsTask}
 use Rattle.command_line.specs.declared.words.RoundsTask.TheVariants.{Period, Tables}
 use Rattle.command_line.specs.Names.{IsOtherFile}
-use Rattle.plan_picture.specs.Limits.{least_width, most_width}
+use Rattle.plan_sheets.specs.Limits.{least_width, most_width}
 use Rattle.ttp_model.specs.Limits.{most_ticks}
 
 -- a picture is as wide as it may be

@@ -3,7 +3,7 @@
 
 use crate::rows::{Place, Range, Row, Takes, Written};
 use command_streams::Sink;
-use plan_picture::{LEAST_WIDTH, MOST_WIDTH};
+use plan_sheets::pictures::{LEAST_WIDTH, MOST_WIDTH};
 use ttp_model::MOST_TICKS;
 
 // ---- words

@@ -10,8 +10,8 @@ use crate::options::{
 };
 use crate::rows::Row;
 use crate::words::{Request, RoundsTask, Task};
-use plan_picture::Shown;
 use plan_sheets::Table;
+use plan_sheets::pictures::Shown;
 use schedule_exports::Export;
 use std::alloc::Global;
 

@@ -1,7 +1,7 @@
 //! What may the words of the command line ask for?
 
-use plan_picture::Shown;
 use plan_sheets::Table;
+use plan_sheets::pictures::Shown;
 use schedule_exports::Export;
 use std::io;
 use std::rt::Env;

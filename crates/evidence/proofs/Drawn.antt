@@ -9,19 +9,19 @@ use Rattle.ttp_model.specs.Slots.{duration, slot_start}
 use Rattle.tt_layout.specs.Cycle.{cycle_rounds}
 use Rattle.plan_sheets.specs.declared.slots.Slot.{Slot}
 use Rattle.plan_sheets.specs.Slots.{slot_of}
-use Rattle.plan_picture.specs.declared.canvas.Canvas.{Canvas}
-use Rattle.plan_picture.specs.declared.picture.Shown.{Shown}
-use Rattle.plan_picture.specs.declared.picture.Shown.TheVariants.{All}
-use Rattle.plan_picture.specs.declared.rectangle.Rectangle.{Rectangle}
-use Rattle.plan_picture.specs.declared.slots.Load.TheVariants.{Messages, Nothing}
-use Rattle.plan_picture.specs.Canvas.{canvas_of, tenths_text}
-use Rattle.plan_picture.specs.Lines.{deliveries_text, delivery_of, delivery_text, delivery_title, line_text, lines_text, message_text, sending_text}
-use Rattle.plan_picture.specs.Picture.{boxes_text, head_text, hollow_text, limits_text, picture_text, ticks_text, whole_text}
-use Rattle.plan_picture.specs.Processes.{process_name_text, process_rectangle, process_text, process_title_text, processes_text}
-use Rattle.plan_picture.specs.Rectangles.{opened_text, opening_text, rectangle_text}
-use Rattle.plan_picture.specs.Rows.{rows_text}
-use Rattle.plan_picture.specs.Scale.{delay_text, scale_text}
-use Rattle.plan_picture.specs.Slots.{hollow_slot_text, position_slots, round_slots, slot_at, slot_rectangle, slot_words, slots_text}
+use Rattle.plan_sheets.specs.declared.pictures.canvas.Canvas.{Canvas}
+use Rattle.plan_sheets.specs.declared.pictures.picture.Shown.{Shown}
+use Rattle.plan_sheets.specs.declared.pictures.picture.Shown.TheVariants.{All}
+use Rattle.plan_sheets.specs.declared.pictures.rectangle.Rectangle.{Rectangle}
+use Rattle.plan_sheets.specs.declared.pictures.slots.Load.TheVariants.{Messages, Nothing}
+use Rattle.plan_sheets.specs.Canvas.{canvas_of, tenths_text}
+use Rattle.plan_sheets.specs.DeliveryLines.{deliveries_text, delivery_of, delivery_text, delivery_title, line_text, lines_text, message_text, sending_text}
+use Rattle.plan_sheets.specs.Picture.{boxes_text, head_text, hollow_text, limits_text, picture_text, ticks_text, whole_text}
+use Rattle.plan_sheets.specs.Processes.{process_name_text, process_rectangle, process_text, process_title_text, processes_text}
+use Rattle.plan_sheets.specs.Rectangles.{opened_text, opening_text, rectangle_text}
+use Rattle.plan_sheets.specs.Rows.{rows_text}
+use Rattle.plan_sheets.specs.Scale.{delay_text, scale_text}
+use Rattle.plan_sheets.specs.SlotRectangles.{hollow_slot_text, position_slots, round_slots, slot_at, slot_rectangle, slot_words, slots_text}
 use Rattle.evidence.specs.Parts.{IsPartOf}
 use Rattle.evidence.specs.Pictures.{delivery_line, process_box, rectangle_at, slot_box}
 use Rattle.evidence.proofs.Parts.{element, first, later, numbered, sooner, within}

@@ -3,7 +3,7 @@
 #![tactic(auto)]
 
 ghost use Rattle.std.specs.Prelude.{◌≤◌};
-ghost use Rattle.plan_picture.specs.Limits.{least_width, most_width};
+ghost use Rattle.plan_sheets.specs.Limits.{least_width, most_width};
 
 mod events;
 mod searching;
@@ -16,8 +16,8 @@ use plan_commands::{
     check_run, compare_run, draw_run, judge_run, period_run, replay_run, schedule_run, tables,
     tables_run, verify, verify_bundle,
 };
-use plan_picture::{LEAST_WIDTH, MOST_WIDTH, Shown};
 use plan_sheets::Table;
+use plan_sheets::pictures::{LEAST_WIDTH, MOST_WIDTH, Shown};
 use searching::{Part, part_of, tell};
 use std::alloc::{Alloc, AllocError, Global};
 use std::io::{Read, Write};

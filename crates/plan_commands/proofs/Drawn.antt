@@ -1,6 +1,6 @@
 -- Why `draw` is refused: as `verify` is, or for the number of slots.
 use Rattle.std.proofs.Common.{ℕ, List, Option, None, Some, IfSome}
-use Rattle.plan_picture.specs.declared.picture.Shown.{Shown}
+use Rattle.plan_sheets.specs.declared.pictures.picture.Shown.{Shown}
 use Rattle.plan_commands.specs.declared.verdict.Verified.{Verified}
 use Rattle.command_streams.specs.declared.ending.Fault.{Fault}
 use Rattle.command_streams.specs.declared.ending.Fault.TheVariants.{Memory, TooManySlots}

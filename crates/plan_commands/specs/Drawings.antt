@@ -2,8 +2,8 @@
 use Rattle.std.specs.Prelude.{◌≡◌, ℕ, List, Option, None, Some}
 use Rattle.ttp_model.specs.declared.plan.Plan.{Plan as Table}
 use Rattle.ttp_model.specs.Instance.{Instance}
-use Rattle.plan_picture.specs.declared.picture.Shown.{Shown}
-use Rattle.plan_picture.specs.Picture.{picture_text, too_many_slots}
+use Rattle.plan_sheets.specs.declared.pictures.picture.Shown.{Shown}
+use Rattle.plan_sheets.specs.Picture.{picture_text, too_many_slots}
 use Rattle.plan_commands.specs.declared.verdict.Verified.{Verified}
 use Rattle.command_streams.specs.declared.ending.Fault.{Fault}
 use Rattle.command_streams.specs.declared.ending.Fault.TheVariants.{Memory, TooManySlots}

@@ -3,7 +3,7 @@
 ghost use Rattle.std.specs.Prelude.{◌+◌, ◌≤◌, IfSome};
 ghost use Rattle.ttp_model.specs.Plans.{IsValid};
 ghost use Rattle.std.specs.Io.KnownBytes.{Keeps};
-ghost use Rattle.plan_picture.specs.Limits.{least_width, most_width};
+ghost use Rattle.plan_sheets.specs.Limits.{least_width, most_width};
 ghost use Rattle.command_streams.specs.declared.limits.TheConstants.{INSTANCE_LIMIT};
 ghost use Rattle.command_streams.specs.Streams.{TakesAtMost};
 ghost use Rattle.command_streams.specs.Instances.{IsOfInstance};
@@ -13,7 +13,7 @@ ghost use Rattle.plan_commands.specs.Drawings.{IsDrawAnswer, IsPictureText, IsUn
 
 use crate::printed::printed_of_readers;
 use command_streams::{End, Fault, end_with};
-use plan_picture::{Shown, print, too_many_slots};
+use plan_sheets::pictures::{Shown, print, too_many_slots};
 use std::alloc::Global;
 use std::io::{Read, Write};
 use ttp_model::{Instance, Plan};

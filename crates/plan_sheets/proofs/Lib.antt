@@ -1,3 +1,9 @@
+pub mod PictureGrowing
+pub mod Places
+pub mod Pieces
+pub mod Steps
+pub mod Loads
+pub mod Room
 pub mod Growing
 pub mod Frames
 pub mod Placing

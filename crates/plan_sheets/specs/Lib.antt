@@ -1,3 +1,15 @@
+pub mod Limits
+pub mod Canvas
+pub mod Rectangles
+pub mod Names
+pub mod SlotRectangles
+pub mod Processes
+pub mod DeliveryLines
+pub mod Scale
+pub mod Deadlines
+pub mod Rows
+pub mod Picture
+pub mod Shapes
 pub mod Lines
 pub mod Order
 pub mod Dispatch

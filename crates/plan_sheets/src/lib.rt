@@ -6,6 +6,7 @@ mod deliveries;
 mod dispatch;
 mod laws;
 mod order;
+pub mod pictures;
 mod sheet;
 mod slots;
 mod table;

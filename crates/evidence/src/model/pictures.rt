@@ -4,12 +4,12 @@ ghost use Rattle.std.specs.Prelude.{◌≡◌, ℕ, ◌*◌, ◌<◌, ◌≤◌,
 ghost use Rattle.ttp_model.specs.Instance.{message_at};
 ghost use Rattle.ttp_model.specs.Plans.{load_on};
 ghost use Rattle.tt_layout.specs.Cycle.{cycle_rounds};
-ghost use Rattle.plan_picture.specs.Limits.{least_width, most_width};
+ghost use Rattle.plan_sheets.specs.Limits.{least_width, most_width};
 ghost use Rattle.evidence.specs.Parts.{IsPartOf};
 ghost use Rattle.evidence.specs.Pictures.{delivery_line, process_box, slot_box};
 
 use plan_check::check;
-use plan_picture::{Shown, print, too_many_slots};
+use plan_sheets::pictures::{Shown, print, too_many_slots};
 use std::alloc::Global;
 use ttp_model::{Instance, MemoryFault, Plan};
 

@@ -1,7 +1,0 @@
-use Rattle.std.proofs.Common.{◌≡◌, ◌++◌, string_bytes}
-use Rattle.std.specs.List.{flat_map, range_with_len}
-use Rattle.plan_picture.specs.Slots.{band_text}
-use Rattle.plan_picture.proofs.slots.put_bands.Given as goal
-
-abbrev pub invariant-loop-channel : goal.invariant-loop-channel
-invariant-loop-channel l = string_bytes l.text ≡ string_bytes l.initial.text ++ flat_map (band_text l.canvas) (range_with_len 0 l.channel)

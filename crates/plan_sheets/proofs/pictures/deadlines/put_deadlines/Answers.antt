@@ -1,0 +1,13 @@
+use Rattle.std.proofs.Common.{◌≡◌, ap, arith, length}
+use Rattle.plan_sheets.specs.Deadlines.{deadline_piece, deadlines_text}
+use Rattle.plan_sheets.proofs.PictureGrowing.{range_grows}
+use Rattle.plan_sheets.proofs.pictures.deadlines.put_deadlines.Goals as goal
+
+pub loop-p-preserved : goal.loop-p-preserved
+loop-p-preserved c = range_grows _ _ _ (deadline_piece c.args.canvas.now c.args.instance.now) c.loop-p.p c.loop-p.invariant c.in_ok-put_marked.ensures
+
+pub returns : goal.returns
+unfolding deadlines_text
+returns c =
+    let all : c.loop-p.p ≡ length c.args.instance.now.processes = omega (arith, ap length c.processes-count.ensures.value) in
+    rw all at c.loop-p.invariant
