@@ -4,7 +4,6 @@ pub mod Stores
 pub mod Unrolled
 pub mod Places
 pub mod Faults
-pub mod Tables
 pub mod Refusals
 pub mod Aging
 pub mod Runs

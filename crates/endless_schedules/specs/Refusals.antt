@@ -8,7 +8,7 @@ use Rattle.endless_schedules.specs.declared.unrolling.UnrollFault.{UnrollFault}
 use Rattle.endless_schedules.specs.declared.unrolling.UnrollFault.TheVariants.{TooMany, Refused, OutOfMemory}
 use Rattle.endless_schedules.specs.declared.fault.TableFault.{TableFault}
 use Rattle.endless_schedules.specs.declared.fault.TableFault.TheVariants as fault
-use Rattle.endless_schedules.specs.Tables.{instance_of}
+use Rattle.ttp_model.specs.Parts.{instance_of}
 use Rattle.endless_schedules.specs.Unrolled.{unrolled}
 
 -- these are its tables, and it is refused for this

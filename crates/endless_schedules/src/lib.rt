@@ -36,7 +36,7 @@ pub use laws::{
     earlier_cycles_are_stored, jobs_start_behind_frames, plans_repeat_as_they_are_valid,
 };
 pub use spreads::{Spread, spread_of};
-pub use tables::{UnrolledTables, tables_of};
+pub use tables::tables_of;
 pub use unrolling::{UnrollFault, Unrollable, unroll};
 pub use windows::{first_without_room, window_age};
 pub use worked::late_pair_repeats;

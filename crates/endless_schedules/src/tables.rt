@@ -3,7 +3,7 @@
 ghost use Rattle.std.specs.Prelude.{◌≡◌, IfErr, IfOk, map};
 ghost use Rattle.rates_model.specs.Cycles.{bus_for, horizon_of};
 ghost use Rattle.endless_schedules.specs.Faults.{IsTableFault};
-ghost use Rattle.endless_schedules.specs.Tables.{instance_of};
+ghost use Rattle.ttp_model.specs.Parts.{instance_of};
 ghost use Rattle.endless_schedules.specs.Unrolled.{unrolled, unrolled_node, unrolled_processes};
 
 use crate::carrying::waits_of;
@@ -15,17 +15,7 @@ use crate::places::Places;
 use crate::stores::push_all_stores;
 use rates_model::{Rates, RatesNode};
 use std::alloc::Global;
-use ttp_model::{Cluster, Link, MemoryFault, Message, Node, Numbers, Process};
-
-/// The tables of the instance of one cycle.
-#[derive(Drop)]
-pub struct UnrolledTables {
-    pub cluster: Cluster,
-    pub nodes: Vec<Node>,
-    pub processes: Vec<Process>,
-    pub links: Vec<Link>,
-    pub messages: Vec<Message>,
-}
+use ttp_model::{Cluster, MemoryFault, Node, Numbers, Parts, Process};
 
 /// The bus, for the whole rounds of a cycle.
 fn unrolled_cluster(rates: &Rates) -> Cluster
@@ -81,7 +71,7 @@ fn unrolled_processes(alloc: Global, rates: &Rates) -> Result<Vec<Process>, Memo
 }
 
 /// The tables of one cycle, unless a list is longer than that of any instance; no process is made before all are counted.
-pub fn tables_of(alloc: Global, rates: &Rates) -> Result<UnrolledTables, TableFault>
+pub fn tables_of(alloc: Global, rates: &Rates) -> Result<Parts, TableFault>
     ensures ok { IfOk result (λ tables. instance_of tables ≡ unrolled rates.now) }
     ensures err { IfErr result (IsTableFault rates.now) }
 {
@@ -90,7 +80,7 @@ pub fn tables_of(alloc: Global, rates: &Rates) -> Result<UnrolledTables, TableFa
     let messages = all_messages(alloc, rates, &places)?;
     let nodes = unrolled_nodes(alloc, rates)?;
     let processes = unrolled_processes(alloc, rates)?;
-    Ok(UnrolledTables {
+    Ok(Parts {
         cluster: unrolled_cluster(rates),
         nodes,
         processes,

@@ -7,15 +7,15 @@ ghost use Rattle.endless_schedules.specs.Refusals.{IsUnrollFault};
 ghost use Rattle.endless_schedules.specs.Unrolled.{unrolled};
 
 use crate::fault::TableFault;
-use crate::tables::{UnrolledTables, tables_of};
+use crate::tables::tables_of;
 use rates_model::Rates;
 use std::alloc::Global;
-use ttp_model::{Instance, ModelError, Part};
+use ttp_model::{Instance, ModelError, Part, Parts};
 
 /// The tables of an instance that is refused, and why.
 #[derive(Drop)]
 pub struct Unrollable {
-    pub tables: UnrolledTables,
+    pub tables: Parts,
     pub error: ModelError,
 }
 
@@ -67,7 +67,7 @@ pub fn unroll(alloc: Global, rates: &Rates) -> Result<Instance, UnrollFault>
 {
     let _processes = rates.processes();
     let tables = tables_of(alloc, rates)?;
-    let UnrolledTables {
+    let Parts {
         cluster,
         nodes,
         processes,

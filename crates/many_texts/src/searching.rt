@@ -6,7 +6,7 @@ ghost use Rattle.search_trees.specs.Task.{IsTask};
 use crate::events::succeed;
 use crate::{Case, Stopped};
 use branch_tree::{Task, Worked, work};
-use certificate::read;
+use certificate::{Node, read};
 use incumbent::Incumbent;
 use instance_text::{TextError, read as read_instance};
 use line_text::{NumberWord, number_word, push_number_word};
@@ -96,13 +96,13 @@ fn names(alloc: Global) -> Result<Vec<Name>, MemoryFault> {
     Ok(vec![in alloc; root, first, second]?)
 }
 
-/// How many nodes prove the bound of a case's certificate where the one at this place was left; 0 where that is missed.
-fn nodes_without(alloc: Global, case: &Case, place: usize) -> Result<usize, Stopped> {
-    let i = instance_of(alloc, case)?;
-    let Ok(cert) = read(alloc, case.second.as_slice()) else {
-        return Err(Stopped("a certificate isn't one"));
-    };
-    let (nodes, names) = (cert.nodes(), names(alloc)?);
+/// The nodes with their names, as far as there are both, but for the node at this place.
+fn standing_without<'a>(
+    alloc: Global,
+    nodes: &'a [Node],
+    names: &'a [Name],
+    place: usize,
+) -> Result<Vec<Standing<'a>>, MemoryFault> {
     let mut standing = Vec::new(alloc);
     for k in 0..nodes.len().min(names.len()) {
         let node = if k == place { None } else { Some(&nodes[k]) };
@@ -111,6 +111,17 @@ fn nodes_without(alloc: Global, case: &Case, place: usize) -> Result<usize, Stop
             node,
         })?;
     }
+    Ok(standing)
+}
+
+/// How many nodes prove the bound of a case's certificate where the one at this place was left; 0 where that is missed.
+fn nodes_without(alloc: Global, case: &Case, place: usize) -> Result<usize, Stopped> {
+    let i = instance_of(alloc, case)?;
+    let Ok(cert) = read(alloc, case.second.as_slice()) else {
+        return Err(Stopped("a certificate isn't one"));
+    };
+    let names = names(alloc)?;
+    let standing = standing_without(alloc, cert.nodes(), names.as_slice(), place)?;
     match proof_of(alloc, &i, cert.version(), cert.low(), standing, 1)? {
         Some(proof) => Ok(proof.nodes().len()),
         None => Ok(0),
@@ -280,6 +291,6 @@ pub fn tell(
         Part::Watch => put_seen(alloc, text)?,
         Part::Events => put(text, "events", u64::from(succeed(alloc)?))?,
     }
-    text.push(b'\n')?;
+    text.extend_from_slice(b"\n")?;
     Ok(())
 }

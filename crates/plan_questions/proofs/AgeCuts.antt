@@ -9,8 +9,8 @@ use Rattle.ttp_model.specs.Plans.{IsValid}
 use Rattle.ttp_model.specs.Delays.{HasNoPlan}
 use Rattle.certificate.specs.Cert.{Cert}
 use Rattle.certificate.specs.Versions.{Allows}
-use Rattle.plan_questions.specs.outcome.Options.{Options}
-use Rattle.plan_questions.specs.outcome.Outcome.TheVariants as outcome
+use Rattle.planner.specs.outcome.Options.{Options}
+use Rattle.planner.specs.outcome.Outcome.TheVariants as outcome
 use Rattle.plan_questions.proofs.AnswerVersions.{answer_allows}
 use Rattle.rates_model.specs.declared.parts.Chain.{Chain}
 use Rattle.rates_model.specs.Rates.{Rates, chain_at}

@@ -6,7 +6,7 @@ use Rattle.ttp_model.specs.Rules.{CanEndInTime, IsInstance}
 use Rattle.ttp_model.specs.Plans.{IsValid}
 use Rattle.ttp_model.specs.Delays.{HasNoPlan}
 use Rattle.certificate.specs.Cert.{Cert}
-use Rattle.plan_questions.specs.outcome.Options.{Options}
+use Rattle.planner.specs.outcome.Options.{Options}
 use Rattle.rates_model.specs.Rates.{Rates, chain_at}
 use Rattle.endless_schedules.specs.Unrolled.{unrolled}
 use Rattle.endless_schedules.specs.Ages.{IsAge}

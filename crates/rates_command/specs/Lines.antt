@@ -20,7 +20,7 @@ use Rattle.rates_text.specs.declared.error.RatesTextError.{RatesTextError}
 use Rattle.rates_text.specs.declared.error.RatesTextError.TheVariants as text
 use Rattle.endless_schedules.specs.declared.unrolling.UnrollFault.{UnrollFault}
 use Rattle.endless_schedules.specs.declared.unrolling.UnrollFault.TheVariants as unrolled
-use Rattle.endless_schedules.specs.Tables.{instance_of}
+use Rattle.ttp_model.specs.Parts.{instance_of}
 use Rattle.command_streams.specs.Lines.{fault_line, part_word, table_words}
 use Rattle.rates_command.specs.declared.ending.RatesFault.{RatesFault}
 use Rattle.rates_command.specs.declared.ending.RatesFault.TheVariants.{Memory, Text, Unrolled, Unread, TooLong, OfPlan, Unwritten}

@@ -2,17 +2,17 @@
 
 ghost use Rattle.std.specs.Prelude.{Some};
 ghost use Rattle.command_streams.specs.Lines.{part_word};
-ghost use Rattle.endless_schedules.specs.Tables.{instance_of};
+ghost use Rattle.ttp_model.specs.Parts.{instance_of};
 ghost use Rattle.rates_command.specs.Lines.{named_line, rates_line, rates_model_line, rates_part_word, rates_place_words, rates_table_words, rates_text_line, unroll_line};
 
 use crate::ending::RatesFault;
 use crate::named::{LinkNames, NamedPlace, SpacedNames, message_name, node_name, process_name};
-use endless_schedules::{UnrollFault, UnrolledTables};
+use endless_schedules::UnrollFault;
 use instance_text::Place;
 use rates_model::{RatesError, RatesPart, RatesPlace};
 use rates_text::{RatesTable, RatesTextError};
 use std::fmt;
-use ttp_model::{ModelError, Part};
+use ttp_model::{ModelError, Part, Parts};
 
 #[derive(Drop)]
 struct RatesPartWord(RatesPart);
@@ -141,7 +141,7 @@ impl fmt::Display for PartWord {
 }
 
 #[derive(Drop)]
-struct NamedLine<'a>(&'a UnrolledTables, &'a ModelError);
+struct NamedLine<'a>(&'a Parts, &'a ModelError);
 
 impl<'a> fmt::Display for NamedLine<'a> {
     ghost output = { λ x. Some (named_line (instance_of x.0.now) x.1.now) };

@@ -4,15 +4,14 @@ ghost use Rattle.std.specs.Prelude.{◌≡◌, Some};
 ghost use Rattle.std.specs.List.{flat_map};
 ghost use Rattle.ttp_model.specs.Instance.{link_at};
 ghost use Rattle.ttp_model.specs.Names.{message_name, node_name, process_name};
-ghost use Rattle.endless_schedules.specs.Tables.{instance_of};
+ghost use Rattle.ttp_model.specs.Parts.{instance_of};
 ghost use Rattle.rates_command.specs.Lines.{link_names, named_place, spaced_name};
 
-use endless_schedules::UnrolledTables;
 use std::fmt;
-use ttp_model::{Link, Place};
+use ttp_model::{Link, Parts, Place};
 
 /// The name of node `n`: no bytes where it isn't there.
-pub fn node_name(tables: &UnrolledTables, n: u32) -> &str
+pub fn node_name(tables: &Parts, n: u32) -> &str
     ensures { result.now ≡ node_name (instance_of tables.now) n }
 {
     if (n as usize) < tables.nodes.len() {
@@ -23,7 +22,7 @@ pub fn node_name(tables: &UnrolledTables, n: u32) -> &str
 }
 
 /// The name of process `p`: no bytes where it isn't there.
-pub fn process_name(tables: &UnrolledTables, p: u32) -> &str
+pub fn process_name(tables: &Parts, p: u32) -> &str
     ensures { result.now ≡ process_name (instance_of tables.now) p }
 {
     if (p as usize) < tables.processes.len() {
@@ -34,7 +33,7 @@ pub fn process_name(tables: &UnrolledTables, p: u32) -> &str
 }
 
 /// The name of message `m`: no bytes where it isn't there.
-pub fn message_name(tables: &UnrolledTables, m: u32) -> &str
+pub fn message_name(tables: &Parts, m: u32) -> &str
     ensures { result.now ≡ message_name (instance_of tables.now) m }
 {
     if (m as usize) < tables.messages.len() {
@@ -45,7 +44,7 @@ pub fn message_name(tables: &UnrolledTables, m: u32) -> &str
 }
 
 /// The processes of a link's ends: process 0 twice where it isn't there.
-fn ends_of(tables: &UnrolledTables, l: u32) -> Link
+fn ends_of(tables: &Parts, l: u32) -> Link
     ensures { result ≡ link_at (instance_of tables.now) l }
 {
     if (l as usize) < tables.links.len() {
@@ -60,7 +59,7 @@ fn ends_of(tables: &UnrolledTables, l: u32) -> Link
 
 /// The names of a link's two ends.
 #[derive(Drop)]
-pub struct LinkNames<'a>(pub &'a UnrolledTables, pub u32);
+pub struct LinkNames<'a>(pub &'a Parts, pub u32);
 
 impl<'a> fmt::Display for LinkNames<'a> {
     ghost output = { λ x. Some (link_names (instance_of x.0.now) x.1) };
@@ -75,7 +74,7 @@ impl<'a> fmt::Display for LinkNames<'a> {
 
 /// The words for a place, by names.
 #[derive(Drop)]
-pub struct NamedPlace<'a>(pub &'a UnrolledTables, pub Place);
+pub struct NamedPlace<'a>(pub &'a Parts, pub Place);
 
 impl<'a> fmt::Display for NamedPlace<'a> {
     ghost output = { λ x. Some (named_place (instance_of x.0.now) x.1) };
@@ -93,7 +92,7 @@ impl<'a> fmt::Display for NamedPlace<'a> {
 
 /// The names of processes, each behind a space.
 #[derive(Drop)]
-pub struct SpacedNames<'a>(pub &'a UnrolledTables, pub &'a [u32]);
+pub struct SpacedNames<'a>(pub &'a Parts, pub &'a [u32]);
 
 impl<'a> fmt::Display for SpacedNames<'a> {
     ghost output = { λ x. Some (flat_map (spaced_name (instance_of x.0.now)) x.1.now) };

@@ -8,9 +8,8 @@ ghost use Rattle.rates_command.specs.Answers.{IsOfUnrolling};
 ghost use Rattle.rates_command.specs.Telling.{IsReasonOf, IsUnrollReason};
 
 use crate::ending::RatesFault;
-use endless_schedules::{UnrollFault, Unrollable, UnrolledTables};
+use endless_schedules::{UnrollFault, Unrollable};
 use instance_reasons::{RuleReason, entry_words, rule_reason};
-use instance_text::Parts;
 use rates_model::Rates;
 use sentences::Word::{Number, Text};
 use sentences::{put, tell};
@@ -64,21 +63,7 @@ fn put_broken(
     ensures words { OnOk result (Gains IsShown (string_bytes text.old) (string_bytes text.new)) }
 {
     let Unrollable { tables, error } = refused;
-    let UnrolledTables {
-        cluster,
-        nodes,
-        processes,
-        links,
-        messages,
-    } = tables;
-    let parts = Parts {
-        cluster,
-        nodes,
-        processes,
-        links,
-        messages,
-    };
-    let reason = rule_reason(alloc, &parts, &error)?;
+    let reason = rule_reason(alloc, &tables, &error)?;
     put(alloc, text, &OfCycle(&reason))?;
     Ok(())
 }

@@ -4,7 +4,7 @@ ghost use Rattle.std.specs.Prelude.{ℕ};
 ghost use Rattle.ttp_model.specs.declared.plan.Plan.{Plan};
 ghost use Rattle.certificate.specs.Cert.{Cert};
 ghost use Rattle.certificate.specs.Versions.{Allows};
-ghost use Rattle.plan_questions.specs.outcome.Options.{Options};
+ghost use Rattle.planner.specs.outcome.Options.{Options};
 ghost use Rattle.rates_model.specs.Rates.{Rates};
 ghost use Rattle.plan_questions.specs.LeastAges.{IsShownLeast};
 

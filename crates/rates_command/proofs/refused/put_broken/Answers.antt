@@ -1,5 +1,5 @@
 use Rattle.instance_reasons.specs.Rules.{IsRuleReason}
-use Rattle.endless_schedules.specs.Tables.{instance_of}
+use Rattle.ttp_model.specs.Parts.{instance_of}
 use Rattle.rates_command.proofs.refused.put_broken.Goals as goal
 
 pub returns-clause-reason : goal.returns-clause-reason

@@ -1,7 +1,7 @@
 use Rattle.std.proofs.Common.{take}
 use Rattle.std.specs.List.{flat_map}
 use Rattle.std.specs.Fmt.{HasWritten, IsPlainFormatter}
-use Rattle.endless_schedules.specs.Tables.{instance_of}
+use Rattle.ttp_model.specs.Parts.{instance_of}
 use Rattle.rates_command.specs.Lines.{spaced_name}
 use Rattle.rates_command.proofs.named.SpacedNamesDisplay.fmt.Given as goal
 
