@@ -70,7 +70,7 @@ pub fn delivery_of(instance: &Instance, plan: &Plan, m: usize, q: usize) -> Line
 }
 
 /// Adds the beginning of a line, behind which a title may stand.
-#[tactic(auto, unfolding(crate::specs::Lines::line_text))]
+#[tactic(auto, unfolding(crate::specs::DeliveryLines::line_text))]
 pub fn put_line(text: &mut String, canvas: &Canvas, line: &Line) -> Result<(), AllocError>
     requires sound { IsCanvas canvas.now }
     requires near { IsNear line.now }
@@ -104,7 +104,7 @@ pub fn put_lines(
 }
 
 /// Draws the line of a message to its slot.
-#[tactic(auto, unfolding(crate::specs::Lines::sending_text))]
+#[tactic(auto, unfolding(crate::specs::DeliveryLines::sending_text))]
 fn put_sending(
     text: &mut String,
     canvas: &Canvas,
@@ -129,7 +129,7 @@ fn put_sending(
 }
 
 /// Adds the title of a line from a sender.
-#[tactic(auto, unfolding(crate::specs::Lines::sending_title))]
+#[tactic(auto, unfolding(crate::specs::DeliveryLines::sending_title))]
 fn put_sending_title(
     text: &mut String,
     name: &str,
@@ -166,7 +166,7 @@ fn put_deliveries(
 }
 
 /// Draws the line of a message to a receiver.
-#[tactic(auto, unfolding(crate::specs::Lines::delivery_text))]
+#[tactic(auto, unfolding(crate::specs::DeliveryLines::delivery_text))]
 fn put_delivery(
     text: &mut String,
     canvas: &Canvas,
@@ -190,7 +190,7 @@ fn put_delivery(
 }
 
 /// Adds the title of a line to a receiver.
-#[tactic(auto, unfolding(crate::specs::Lines::delivery_title))]
+#[tactic(auto, unfolding(crate::specs::DeliveryLines::delivery_title))]
 fn put_delivery_title(
     text: &mut String,
     name: &str,

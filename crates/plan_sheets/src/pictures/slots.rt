@@ -59,7 +59,7 @@ struct SlotWords<'a> {
 impl<'a> fmt::Display for SlotWords<'a> {
     ghost output = { λ x. Some (slot_words x.name.now x.slot.now) };
 
-    #[tactic(auto, unfolding(crate::specs::Slots::slot_words))]
+    #[tactic(auto, unfolding(crate::specs::SlotRectangles::slot_words))]
     fn fmt<W: fmt::Write>(&self, f: &mut fmt::Formatter<W>) -> fmt::Result {
         let (name, slot) = (self.name, self.slot);
         let (round, start, end) = (slot.round, slot.start, slot.end);
@@ -154,7 +154,7 @@ pub fn put_bands(text: &mut String, canvas: &Canvas, instance: &Instance) -> Res
 }
 
 /// Does so in the row of a channel.
-#[tactic(auto, unfolding(crate::specs::Slots::band_text))]
+#[tactic(auto, unfolding(crate::specs::SlotRectangles::band_text))]
 fn put_band(text: &mut String, canvas: &Canvas, channel: u32) -> Result<(), AllocError>
     ensures { OnOk result (string_bytes text.new ≡ string_bytes text.old ++ band_text canvas.now channel) }
 {
@@ -189,7 +189,7 @@ fn put_slot(
 }
 
 /// Draws a slot that carries nothing.
-#[tactic(auto, unfolding(crate::specs::Slots::hollow_slot_text))]
+#[tactic(auto, unfolding(crate::specs::SlotRectangles::hollow_slot_text))]
 fn put_hollow_slot(text: &mut String, instance: &Instance, slot: &Slot) -> Result<(), AllocError>
     requires there { IsSlotRow instance.now slot.now }
     requires order { slot.now.start ≤ slot.now.end }
@@ -202,7 +202,7 @@ fn put_hollow_slot(text: &mut String, instance: &Instance, slot: &Slot) -> Resul
 }
 
 /// Draws a slot with the names of its messages.
-#[tactic(auto, unfolding(crate::specs::Slots::used_slot_text))]
+#[tactic(auto, unfolding(crate::specs::SlotRectangles::used_slot_text))]
 fn put_used_slot(
     text: &mut String,
     canvas: &Canvas,
@@ -221,7 +221,7 @@ fn put_used_slot(
 }
 
 /// Adds the title of a slot that carries messages.
-#[tactic(auto, unfolding(crate::specs::Slots::slot_title_text))]
+#[tactic(auto, unfolding(crate::specs::SlotRectangles::slot_title_text))]
 fn put_slot_title(text: &mut String, instance: &Instance, slot: &Slot) -> Result<(), AllocError>
     requires there { IsSlotRow instance.now slot.now }
     ensures { OnOk result (string_bytes text.new ≡ string_bytes text.old ++ slot_title_text instance.now slot.now) }
@@ -232,7 +232,7 @@ fn put_slot_title(text: &mut String, instance: &Instance, slot: &Slot) -> Result
 }
 
 /// Adds what begins the title of a slot that carries messages.
-#[tactic(auto, unfolding(crate::specs::Slots::title_front))]
+#[tactic(auto, unfolding(crate::specs::SlotRectangles::title_front))]
 fn put_title_front(text: &mut String, instance: &Instance, slot: &Slot) -> Result<(), AllocError>
     requires { IsSlotRow instance.now slot.now }
     ensures { OnOk result (string_bytes text.new ≡ string_bytes text.old ++ title_front instance.now slot.now) }
@@ -243,7 +243,7 @@ fn put_title_front(text: &mut String, instance: &Instance, slot: &Slot) -> Resul
 }
 
 /// Adds its rectangle, with their names.
-#[tactic(auto, unfolding(crate::specs::Slots::slot_box_text))]
+#[tactic(auto, unfolding(crate::specs::SlotRectangles::slot_box_text))]
 fn put_slot_box(
     text: &mut String,
     canvas: &Canvas,
