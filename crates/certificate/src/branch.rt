@@ -7,7 +7,7 @@ use ttp_model::Kind;
 
 /// A branch of a certificate's tree: what it decides, and how many children stand below it. A kind
 /// that always has so many has no other count.
-#[derive(Clone, Copy, Debug, PartialEq, Eq)]
+#[derive(Clone, Copy, PartialEq, Eq)]
 pub struct Branch {
     pub kind: Kind,
     pub children: u32,

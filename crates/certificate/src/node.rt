@@ -9,7 +9,7 @@ use ttp_model::Leaf;
 
 /// A branch of a certificate's tree, or a leaf. Nodes, processes and messages are named by their
 /// indices in the instance.
-#[derive(Debug, Drop)]
+#[derive(Drop)]
 pub enum Node {
     /// The children stand below it, in order.
     Branch(Branch),

@@ -7,4 +7,3 @@ pub mod Index
 pub mod Faults
 pub mod Views
 pub mod Told
-pub mod Shown

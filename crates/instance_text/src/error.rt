@@ -4,7 +4,6 @@ ghost use Rattle.std.specs.Prelude.{◌≡◌};
 ghost use Rattle.instance_text.specs.Keys.{text_of};
 
 use std::alloc::{AllocError, AllocFailed};
-use std::fmt;
 use thiserror::Error;
 use ttp_model::ModelError;
 
@@ -23,24 +22,6 @@ pub enum Place {
     Link(usize),
     /// A table `[[message]]`.
     Message(usize),
-}
-
-impl fmt::Display for Place {
-    ghost use Rattle.std.specs.Prelude.{Some};
-    ghost use Rattle.instance_text.specs.Shown.{shown};
-
-    ghost output = { λ place. Some (shown place) };
-
-    fn fmt<W: fmt::Write>(&self, f: &mut fmt::Formatter<W>) -> fmt::Result {
-        match self {
-            Place::Top => write!(f, "the top table"),
-            Place::Cluster => write!(f, "[cluster]"),
-            Place::Node(index) => write!(f, "[[node]] {index}"),
-            Place::Process(index) => write!(f, "[[process]] {index}"),
-            Place::Link(index) => write!(f, "[[link]] {index}"),
-            Place::Message(index) => write!(f, "[[message]] {index}"),
-        }
-    }
 }
 
 /// A key of one of the tables.
@@ -104,16 +85,6 @@ impl Key {
     }
 }
 
-impl fmt::Display for Key {
-    ghost use Rattle.std.specs.Prelude.{Some};
-
-    ghost output = { λ key. Some (text_of key) };
-
-    fn fmt<W: fmt::Write>(&self, f: &mut fmt::Formatter<W>) -> fmt::Result {
-        f.write_str(self.text())
-    }
-}
-
 /// The first fault of a text, in this order: the text, the top table with the items of its arrays,
 /// the cluster, the nodes, the processes, the links, the messages, and then the model's rules. In a
 /// table an unknown key goes first, then each key in turn.
@@ -123,19 +94,19 @@ pub enum TextError {
     #[error("not TOML")]
     NotToml,
     /// When the table has a key that such a table doesn't have.
-    #[error("{place} has an unknown key")]
+    #[error("a table has an unknown key")]
     UnknownKey { place: Place },
     /// When the table lacks a key that has to be there.
-    #[error("{place} lacks `{key}`")]
+    #[error("a table lacks a key")]
     MissingKey { place: Place, key: Key },
     /// When the key's value, or an item of its array, is of another kind.
-    #[error("`{key}` of {place} is of another kind")]
+    #[error("a key's value is of another kind")]
     WrongKind { place: Place, key: Key },
     /// When the key's whole number, or one in its array, isn't within 0 to 4,294,967,295.
-    #[error("`{key}` of {place} is outside 0 to 4294967295")]
+    #[error("a key's number is outside 0 to 4294967295")]
     OutOfRange { place: Place, key: Key },
     /// When the key names a node or a process, itself or in its array, that isn't in the text.
-    #[error("`{key}` of {place} names what is not there")]
+    #[error("a key names what is not there")]
     UnknownName { place: Place, key: Key },
     /// When the instance that the text states breaks a rule of the model.
     #[error("{0}")]

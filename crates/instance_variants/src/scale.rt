@@ -5,7 +5,7 @@ ghost use Rattle.ttp_model.specs.Limits.{most_ticks};
 ghost use Rattle.instance_variants.specs.Longer.{number_of, ticks_of};
 
 /// In what it is counted by how much longer a process runs.
-#[derive(Clone, Copy, Debug, PartialEq, Eq)]
+#[derive(Clone, Copy, PartialEq, Eq)]
 pub enum Scale {
     Ticks,
     /// Of its worst-case execution time, rounded up to whole ticks.

@@ -14,7 +14,7 @@ pub enum ReplayFault {
     TooFewNodes,
     /// When the loss of this index is outside the cycle, or at a node that isn't there or is the
     /// slot's sender, and those before it are not.
-    #[error("loss {0} can not be")]
+    #[error("a loss can not be")]
     WrongLoss(usize),
     /// When memory is refused.
     #[error("out of memory")]

@@ -11,7 +11,7 @@ use std::alloc::Global;
 use ttp_model::{Instance, MemoryFault, Plan};
 
 /// A table of a plan.
-#[derive(Clone, Copy, Debug, PartialEq, Eq)]
+#[derive(Clone, Copy, PartialEq, Eq)]
 pub enum Table {
     /// Each process, node by node in the order of starts.
     Processes,

@@ -28,39 +28,39 @@ pub enum RatesPlace {
 #[derive(Clone, Copy, Debug, Error)]
 pub enum RatesError {
     /// When a list has too few or too many entries.
-    #[error("{0:?} are too few or too many")]
+    #[error("a list has too few or too many entries")]
     Length(RatesPart),
     /// When a message has no receiver.
-    #[error("message {0} has no receiver")]
+    #[error("a message has no receiver")]
     NoReceiver(u32),
     /// When a chain leads through too few or too many processes.
-    #[error("chain {0} leads through too few or too many processes")]
+    #[error("a chain leads through too few or too many processes")]
     Through(u32),
     /// When a name is malformed.
-    #[error("{0:?} has a malformed name")]
+    #[error("a name is malformed")]
     NameForm(RatesPlace),
     /// When an earlier one of its list has the name.
-    #[error("{0:?} repeats a name")]
+    #[error("a name stands twice in a list")]
     NameRepeated(RatesPlace),
     /// When a node or a process that is named by its index is not there.
-    #[error("{0:?} names an index that is not there")]
+    #[error("an index is named that is not there")]
     NoSuchIndex(RatesPlace),
     /// When a period, an age, a delay, what storing takes or the round that is asked for is outside its range.
-    #[error("{0:?} has a number outside its range")]
+    #[error("a number is outside its range")]
     OutOfRange(RatesPlace),
     /// When a process that starts at its release misses its deadline, or its deadline is behind its period.
-    #[error("process {0} has no room in its period")]
+    #[error("a process has no room in its period")]
     NoRoom(u32),
     /// When the process at this place of a chain, by its index from 0, reads nothing of the one before it.
-    #[error("the process at place {1} of chain {0} reads nothing of the one before it")]
+    #[error("a process of a chain reads nothing of the one before it")]
     NothingRead(u32, u32),
     /// When the slots take longer than the round that is asked for, with the ticks of both.
-    #[error("the slots take {0} ticks, and a round is to have {1}")]
+    #[error("the slots take longer than a round is to have")]
     ShortRound(u128, u32),
     /// When the least common multiple of all periods is above 1,000,000 ticks.
     #[error("the periods begin together too seldom")]
     LongCycle,
     /// When a round takes longer than a cycle, with the ticks of both.
-    #[error("a round of {0} ticks is longer than a cycle of {1}")]
+    #[error("a round is longer than a cycle")]
     LongRound(u128, u32),
 }

@@ -6,4 +6,3 @@ pub mod Stated
 pub mod Index
 pub mod Faults
 pub mod Views
-pub mod Shown

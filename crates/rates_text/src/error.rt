@@ -6,7 +6,6 @@ ghost use Rattle.rates_text.specs.Keys.{text_of};
 use instance_text::Place;
 use rates_model::RatesError;
 use std::alloc::{AllocError, AllocFailed};
-use std::fmt;
 use thiserror::Error;
 
 /// A table of the text. Tables of one array are counted from 0.
@@ -16,20 +15,6 @@ pub enum RatesTable {
     Of(Place),
     /// A table `[[chain]]`.
     Chain(usize),
-}
-
-impl fmt::Display for RatesTable {
-    ghost use Rattle.std.specs.Prelude.{Some};
-    ghost use Rattle.rates_text.specs.Shown.{shown};
-
-    ghost output = { λ place. Some (shown place) };
-
-    fn fmt<W: fmt::Write>(&self, f: &mut fmt::Formatter<W>) -> fmt::Result {
-        match self {
-            RatesTable::Of(place) => write!(f, "{place}"),
-            RatesTable::Chain(index) => write!(f, "[[chain]] {index}"),
-        }
-    }
 }
 
 /// A key of one of the tables.
@@ -105,16 +90,6 @@ impl RatesKey {
     }
 }
 
-impl fmt::Display for RatesKey {
-    ghost use Rattle.std.specs.Prelude.{Some};
-
-    ghost output = { λ key. Some (text_of key) };
-
-    fn fmt<W: fmt::Write>(&self, f: &mut fmt::Formatter<W>) -> fmt::Result {
-        f.write_str(self.text())
-    }
-}
-
 /// The first fault of a text, in this order: the text, the top table with the items of its arrays, the cluster, the nodes, the
 /// processes, the links, the messages, the chains, and then the rules of a cluster of several rates. In a table an unknown key goes
 /// first, then each key in turn.
@@ -124,19 +99,19 @@ pub enum RatesTextError {
     #[error("not TOML")]
     NotToml,
     /// When the table has a key that such a table doesn't have.
-    #[error("{place} has an unknown key")]
+    #[error("a table has an unknown key")]
     UnknownKey { place: RatesTable },
     /// When the table lacks a key that has to be there.
-    #[error("{place} lacks `{key}`")]
+    #[error("a table lacks a key")]
     MissingKey { place: RatesTable, key: RatesKey },
     /// When the key's value, or an item of its array, is of another kind.
-    #[error("`{key}` of {place} is of another kind")]
+    #[error("a key's value is of another kind")]
     WrongKind { place: RatesTable, key: RatesKey },
     /// When the key's whole number isn't within 0 to 4,294,967,295.
-    #[error("`{key}` of {place} is outside 0 to 4294967295")]
+    #[error("a key's number is outside 0 to 4294967295")]
     OutOfRange { place: RatesTable, key: RatesKey },
     /// When the key names a node or a process, itself or in its array, that isn't in the text.
-    #[error("`{key}` of {place} names what is not there")]
+    #[error("a key names what is not there")]
     UnknownName { place: RatesTable, key: RatesKey },
     /// When the cluster that the text states breaks a rule.
     #[error("{0}")]

@@ -20,7 +20,7 @@ use std::alloc::{AllocError, Global};
 use ttp_model::{Instance, MemoryFault, Part, Plan};
 
 /// What is to be written.
-#[derive(Clone, Copy, Debug, PartialEq, Eq)]
+#[derive(Clone, Copy, PartialEq, Eq)]
 pub enum Export<'a> {
     /// Constant arrays in C, of the node of this name or of all.
     C(Option<&'a str>),

@@ -10,7 +10,7 @@ use ttp_model::MemoryFault;
 
 /// The names of a branch's children, rising, from one of them on: at least one name. Each is made
 /// when it is asked for.
-#[derive(Debug, Drop)]
+#[derive(Drop)]
 pub struct Brood {
     parent: Name,
     next: u32,

@@ -10,7 +10,7 @@ use search_trees::Name;
 use std::alloc::Global;
 
 /// What a worker holds between two events.
-#[derive(Debug, Drop)]
+#[derive(Drop)]
 pub enum Hand {
     Empty,
     Task(Name),

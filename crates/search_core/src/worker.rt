@@ -18,7 +18,7 @@ use ttp_model::MemoryFault;
 
 /// A worker: its deque, its hand, the best delay in ticks that it saw last, the pieces that it made,
 /// and the names that it left.
-#[derive(Debug, Drop)]
+#[derive(Drop)]
 pub struct Worker {
     deque: VecDeque<Name>,
     hand: Hand,

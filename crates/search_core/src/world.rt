@@ -15,7 +15,7 @@ use std::marker::Model;
 use ttp_model::MemoryFault;
 
 /// A search at one moment: the best delay in ticks, and the workers.
-#[derive(Debug, Drop)]
+#[derive(Drop)]
 pub struct World {
     best: u32,
     workers: Vec<Worker>,

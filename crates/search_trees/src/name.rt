@@ -12,7 +12,7 @@ use std::marker::Model;
 use ttp_model::MemoryFault;
 
 /// The way from the root to a node of the tree: which child is taken at each branch, from 0. Names share what they have in common.
-#[derive(Debug, Drop)]
+#[derive(Drop)]
 pub struct Name {
     indices: SharedList<u32>,
 }

@@ -19,7 +19,7 @@ const STRETCH: usize = 64;
 
 /// A list in stretches, which it shares with the lists that are made of it, and behind them a few items of its own. So one that has
 /// an item more takes little memory, however long it is.
-#[derive(Debug, Drop)]
+#[derive(Drop)]
 pub(crate) struct SharedList<T> {
     stretches: Vec<ArcSlice<T>>,
     own: Vec<T>,

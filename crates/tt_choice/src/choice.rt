@@ -27,7 +27,7 @@ use ttp_model::{BOTH_CHANNELS, Instance, MemoryFault};
 /// sent in given ranges of rounds, on the channels that are fixed.
 ///
 /// A choice is one of an instance, which each call that needs it is handed again.
-#[derive(Debug, Drop)]
+#[derive(Drop)]
 pub struct Choice {
     /// The first nodes of the slot order.
     prefix: Vec<u32>,

@@ -1,7 +1,7 @@
 //! One decision on a plan.
 
 /// What a choice has more than the one that it was made from.
-#[derive(Clone, Copy, Debug, PartialEq, Eq)]
+#[derive(Clone, Copy, PartialEq, Eq)]
 pub enum Decision {
     /// This node comes next in the slot order.
     Place(u32),

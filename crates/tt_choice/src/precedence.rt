@@ -9,7 +9,7 @@ use ttp_model::MemoryFault;
 
 /// A square table with a test for each two processes: whether the first goes before the second.
 /// It takes a bit for each test, and a question one look.
-#[derive(Debug, Drop)]
+#[derive(Drop)]
 pub struct Precedence {
     /// How many processes there are.
     processes: u32,

@@ -1,7 +1,7 @@
 //! What takes a decision back.
 
 /// How a choice becomes again what it was before a decision: with what stood there, where the decision doesn't tell.
-#[derive(Clone, Copy, Debug, PartialEq, Eq)]
+#[derive(Clone, Copy, PartialEq, Eq)]
 pub enum Reversal {
     /// The last node of the slot order is placed no more.
     Unplace,

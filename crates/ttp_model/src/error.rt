@@ -45,28 +45,28 @@ impl<T: Drop> From<AllocFailed<T>> for MemoryFault {
 #[derive(Debug, Drop, Error)]
 pub enum ModelError {
     /// When a list has too few or too many entries.
-    #[error("{0:?} are too few or too many")]
+    #[error("a list has too few or too many entries")]
     Length(Part),
     /// When a message has no receiver.
-    #[error("message {0} has no receiver")]
+    #[error("a message has no receiver")]
     NoReceiver(u32),
     /// When a name is malformed.
-    #[error("{0:?} has a malformed name")]
+    #[error("a name is malformed")]
     NameForm(Place),
     /// When an earlier one of its list has the name.
-    #[error("{0:?} repeats a name")]
+    #[error("a name stands twice in a list")]
     NameRepeated(Place),
     /// When a node or a process that is named by its index is not there.
-    #[error("{0:?} names an index that is not there")]
+    #[error("an index is named that is not there")]
     NoSuchIndex(Place),
     /// When a number is outside its range; a node's capacities are judged apart.
-    #[error("{0:?} has a number outside its range")]
+    #[error("a number is outside its range")]
     OutOfRange(Place),
     /// When a node's capacities are none, too many, too large or not strictly rising.
-    #[error("the capacities of node {0} are not allowed")]
+    #[error("a node's capacities are not allowed")]
     Capacities(u32),
     /// When a message has a receiver on its sender's node.
-    #[error("message {0} has a receiver on its sender's node")]
+    #[error("a message has a receiver on its sender's node")]
     ReceiverOnSender(u32),
     /// When the lead is below twice the precision.
     #[error("the lead is below twice the precision")]
@@ -75,20 +75,20 @@ pub enum ModelError {
     #[error("the trail is below the precision")]
     ShortTrail,
     /// When a process that starts at its release misses its deadline.
-    #[error("process {0} cannot meet its deadline")]
+    #[error("a process cannot meet its deadline")]
     Deadline(u32),
     /// When a link is from a process to itself, or between two nodes.
-    #[error("link {0} is not between two processes of one node")]
+    #[error("a link is not between two processes of one node")]
     LinkAcross(u32),
     /// When a receiver stands twice in a message.
-    #[error("message {0} has a receiver twice")]
+    #[error("a message has a receiver twice")]
     ReceiverTwice(u32),
     /// When processes wait for each other: each leads to the next and the last to the first, by a link or a
     /// message. The least index stands first; which cycle is told, of several, is free.
-    #[error("processes wait for each other: {0:?}")]
+    #[error("processes wait for each other")]
     Cycle(Numbers),
     /// When a message is to be on both channels of a cluster that has one.
-    #[error("message {0} is to be on both channels of one")]
+    #[error("a message is to be on both channels of one")]
     BothOfOne(u32),
     /// When memory was wanted and refused.
     #[error("out of memory")]

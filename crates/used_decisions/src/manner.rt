@@ -8,7 +8,7 @@ use tt_choice::Choice;
 use ttp_model::{Instance, MemoryFault};
 
 /// How a search treats what its answer doesn't need.
-#[derive(Clone, Copy, Debug, PartialEq, Eq)]
+#[derive(Clone, Copy, PartialEq, Eq)]
 pub enum Manner {
     /// It works each subtree and looks for no plan before; its certificate is the tree that was worked.
     Plain,

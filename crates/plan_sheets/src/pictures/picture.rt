@@ -24,7 +24,7 @@ use ttp_model::{Instance, MemoryFault, Plan, delay};
 pub const MOST_SLOTS: u64 = 100_000;
 
 /// Which slots are shown.
-#[derive(Clone, Copy, Debug, PartialEq, Eq)]
+#[derive(Clone, Copy, PartialEq, Eq)]
 pub enum Shown {
     /// Each of the cycle.
     All,
