@@ -4,3 +4,4 @@ pub mod Lines
 pub mod Outcomes
 pub mod Instances
 pub mod Writing
+pub mod Wording

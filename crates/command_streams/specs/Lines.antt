@@ -40,8 +40,8 @@ use Rattle.command_streams.specs.declared.ending.End.{End}
 use Rattle.command_streams.specs.declared.ending.End.TheVariants.{Done, Different, Absent, Stopped, Refused, RefusedOf}
 use Rattle.command_streams.specs.declared.ending.Release.{Release}
 use Rattle.command_streams.specs.declared.ending.Release.TheVariants.{New, Old}
-use Rattle.command_streams.specs.declared.ending.Rounds.{Rounds}
 use Rattle.command_streams.specs.Endings.{fault_status}
+use Rattle.command_streams.specs.Wording.{spaced}
 
 -- the word for a list of the instance
 abbrev pub part_word : Part → List ℕ
@@ -66,10 +66,6 @@ table_words (at.Node n) = codes "node " ++ decimal n
 table_words (at.Process p) = codes "process " ++ decimal p
 table_words (at.Link l) = codes "link " ++ decimal l
 table_words (at.Message m) = codes "message " ++ decimal m
-
--- a number behind a space
-abbrev pub spaced : ℕ → List ℕ
-spaced n = codes " " ++ decimal n
 
 -- the line of a refusal by the model, with its place
 abbrev pub model_line : ModelError → List ℕ
@@ -184,10 +180,6 @@ sink_word sink.Reduced = codes "reduced"
 sink_word sink.Plan = codes "plan"
 sink_word sink.Out = codes "out"
 
--- the words for the rounds of a plan's cycle and those that there are for it
-abbrev pub rounds_words : Rounds → List ℕ
-rounds_words rounds = decimal rounds.needed ++ (codes " " ++ decimal rounds.held)
-
 -- the line of every fault, without its end
 abbrev pub fault_line : Fault → List ℕ
 fault_line NoMark = codes "usage bundle"
@@ -204,8 +196,8 @@ fault_line TooFewNodes = codes "replay N1"
 fault_line (TooManySlots count) = codes "draw slots " ++ decimal count
 fault_line (LongSchedule count) = codes "schedule slots " ++ decimal count
 fault_line NoSuchNode = codes "schedule node"
-fault_line (ShortPeriod rounds) = codes "period rounds " ++ rounds_words rounds
-fault_line (ShortTables rounds) = codes "tables rounds " ++ rounds_words rounds
+fault_line (ShortPeriod rounds) = (codes "period rounds " ++ decimal rounds.needed) ++ (codes " " ++ decimal rounds.held)
+fault_line (ShortTables rounds) = (codes "tables rounds " ++ decimal rounds.needed) ++ (codes " " ++ decimal rounds.held)
 fault_line (LongTables count) = codes "tables slots " ++ decimal count
 fault_line (NoSuchProcess k) = codes "limit name " ++ decimal k
 fault_line (NoSuchRunner k) = codes "margin name " ++ decimal k

@@ -1,10 +1,11 @@
 //! The line that is written on standard error for each fault: a code, a place and indices.
 
-ghost use Rattle.std.specs.Prelude.{◌≡◌, Some, OnOk};
-ghost use Rattle.std.specs.List.{flat_map};
-ghost use Rattle.command_streams.specs.Lines.{spaced, plan_list_number, part_word, place_words, table_words, line_code, certificate_line_code, certificate_text_line, node_code, certificate_line, model_line, text_line, plan_text_line, plan_line, search_line, source_word, sink_word, rounds_words, fault_line};
+ghost use Rattle.std.specs.Prelude.{◌≡◌, Some};
+ghost use Rattle.command_streams.specs.Lines.{part_word, place_words, table_words, model_line, text_line, line_code, plan_text_line, plan_list_number, plan_line, certificate_line_code, certificate_text_line, node_code, certificate_line, search_line, source_word, sink_word, fault_line};
+ghost use Rattle.command_streams.specs.Wording.{place_text, words_text};
 
-use crate::ending::{Fault, Rounds, SearchFault, Sink, Source};
+use crate::ending::{Fault, SearchFault, Sink, Source};
+use crate::words::{PlaceWords, Words};
 use certificate::CertTextError;
 use instance_text::TextError;
 use plan_format::{LineFault, PlanTextError};
@@ -12,162 +13,113 @@ use std::fmt;
 use tree_check::{CertFault, NodeFault};
 use ttp_model::{ModelError, Part, Place, PlanFault, PlanPart};
 
-#[derive(Drop)]
-struct PartWord(Part);
-
-impl fmt::Display for PartWord {
-    ghost output = { λ x. Some (part_word x.0) };
-
-    fn fmt<W: fmt::Write>(&self, f: &mut fmt::Formatter<W>) -> fmt::Result {
-        match self.0 {
-            Part::Nodes => write!(f, "node"),
-            Part::Processes => write!(f, "process"),
-            Part::Links => write!(f, "link"),
-            Part::Messages => write!(f, "message"),
-        }
+/// The word for a list of an instance.
+pub fn part_word(part: Part) -> &'static str
+    ensures { result.now ≡ part_word part }
+{
+    match part {
+        Part::Nodes => "node",
+        Part::Processes => "process",
+        Part::Links => "link",
+        Part::Messages => "message",
     }
 }
 
-#[derive(Drop)]
-struct PlaceWords(Place);
-
-impl fmt::Display for PlaceWords {
-    ghost output = { λ x. Some (place_words x.0) };
-
-    fn fmt<W: fmt::Write>(&self, f: &mut fmt::Formatter<W>) -> fmt::Result {
-        match self.0 {
-            Place::AtCluster => write!(f, "cluster"),
-            Place::AtNode(n) => write!(f, "node {n}"),
-            Place::AtProcess(p) => write!(f, "process {p}"),
-            Place::AtLink(l) => write!(f, "link {l}"),
-            Place::AtMessage(m) => write!(f, "message {m}"),
-        }
+fn place_words(place: Place) -> PlaceWords
+    ensures { place_text result ≡ place_words place }
+{
+    match place {
+        Place::AtCluster => PlaceWords::Alone("cluster"),
+        Place::AtNode(n) => PlaceWords::Numbered("node ", n as u64),
+        Place::AtProcess(p) => PlaceWords::Numbered("process ", p as u64),
+        Place::AtLink(l) => PlaceWords::Numbered("link ", l as u64),
+        Place::AtMessage(m) => PlaceWords::Numbered("message ", m as u64),
     }
 }
 
-#[derive(Drop)]
-struct TableWords(instance_text::Place);
-
-impl fmt::Display for TableWords {
-    ghost output = { λ x. Some (table_words x.0) };
-
-    fn fmt<W: fmt::Write>(&self, f: &mut fmt::Formatter<W>) -> fmt::Result {
-        match self.0 {
-            instance_text::Place::Top => write!(f, "top"),
-            instance_text::Place::Cluster => write!(f, "cluster"),
-            instance_text::Place::Node(n) => write!(f, "node {n}"),
-            instance_text::Place::Process(p) => write!(f, "process {p}"),
-            instance_text::Place::Link(l) => write!(f, "link {l}"),
-            instance_text::Place::Message(m) => write!(f, "message {m}"),
-        }
+/// The words for a table of an instance's text.
+pub fn table_words(table: instance_text::Place) -> PlaceWords
+    ensures { place_text result ≡ table_words table }
+{
+    match table {
+        instance_text::Place::Top => PlaceWords::Alone("top"),
+        instance_text::Place::Cluster => PlaceWords::Alone("cluster"),
+        instance_text::Place::Node(n) => PlaceWords::Numbered("node ", n as u64),
+        instance_text::Place::Process(p) => PlaceWords::Numbered("process ", p as u64),
+        instance_text::Place::Link(l) => PlaceWords::Numbered("link ", l as u64),
+        instance_text::Place::Message(m) => PlaceWords::Numbered("message ", m as u64),
     }
 }
 
-#[derive(Drop)]
-struct Spaced<'a>(&'a [u32]);
-
-impl<'a> fmt::Display for Spaced<'a> {
-    ghost output = { λ x. Some (flat_map spaced x.0.now) };
-
-    fn fmt<W: fmt::Write>(&self, f: &mut fmt::Formatter<W>) -> fmt::Result {
-        for n in self.0 {
-            write!(f, " {n}")?;
-        }
-        Ok(())
+fn model_words(error: &ModelError) -> Words<'_>
+    ensures { words_text result ≡ model_line error.now }
+{
+    match error {
+        ModelError::Length(list) => Words::At("instance M1 ", PlaceWords::Alone(part_word(*list))),
+        ModelError::NoReceiver(m) => Words::Number("instance M1 message ", *m as u64),
+        ModelError::NameForm(at) => Words::At("instance M2 ", place_words(*at)),
+        ModelError::NameRepeated(at) => Words::At("instance M3 ", place_words(*at)),
+        ModelError::NoSuchIndex(at) => Words::At("instance M4 ", place_words(*at)),
+        ModelError::OutOfRange(at) => Words::At("instance M5 ", place_words(*at)),
+        ModelError::Capacities(n) => Words::Number("instance M6 node ", *n as u64),
+        ModelError::ReceiverOnSender(m) => Words::Number("instance M7 message ", *m as u64),
+        ModelError::ShortLead => Words::Alone("instance M8"),
+        ModelError::ShortTrail => Words::Alone("instance M9"),
+        ModelError::Deadline(p) => Words::Number("instance M10 process ", *p as u64),
+        ModelError::LinkAcross(l) => Words::Number("instance M11 link ", *l as u64),
+        ModelError::ReceiverTwice(m) => Words::Number("instance M12 message ", *m as u64),
+        ModelError::Cycle(processes) => Words::All("instance M13", processes.as_slice()),
+        ModelError::BothOfOne(m) => Words::Number("instance M15 message ", *m as u64),
+        ModelError::OutOfMemory => Words::Alone("memory"),
     }
 }
 
-#[derive(Drop)]
-struct ModelLine<'a>(&'a ModelError);
-
-impl<'a> fmt::Display for ModelLine<'a> {
-    ghost output = { λ x. Some (model_line x.0.now) };
-
-    fn fmt<W: fmt::Write>(&self, f: &mut fmt::Formatter<W>) -> fmt::Result {
-        match self.0 {
-            ModelError::Length(part) => write!(f, "instance M1 {}", PartWord(*part)),
-            ModelError::NoReceiver(m) => write!(f, "instance M1 message {m}"),
-            ModelError::NameForm(at) => write!(f, "instance M2 {}", PlaceWords(*at)),
-            ModelError::NameRepeated(at) => write!(f, "instance M3 {}", PlaceWords(*at)),
-            ModelError::NoSuchIndex(at) => write!(f, "instance M4 {}", PlaceWords(*at)),
-            ModelError::OutOfRange(at) => write!(f, "instance M5 {}", PlaceWords(*at)),
-            ModelError::Capacities(n) => write!(f, "instance M6 node {n}"),
-            ModelError::ReceiverOnSender(m) => write!(f, "instance M7 message {m}"),
-            ModelError::ShortLead => write!(f, "instance M8"),
-            ModelError::ShortTrail => write!(f, "instance M9"),
-            ModelError::Deadline(p) => write!(f, "instance M10 process {p}"),
-            ModelError::LinkAcross(l) => write!(f, "instance M11 link {l}"),
-            ModelError::ReceiverTwice(m) => write!(f, "instance M12 message {m}"),
-            ModelError::Cycle(processes) => {
-                write!(f, "instance M13{}", Spaced(processes.as_slice()))
-            }
-            ModelError::BothOfOne(m) => write!(f, "instance M15 message {m}"),
-            ModelError::OutOfMemory => write!(f, "memory"),
+fn text_words(error: &TextError) -> Words<'_>
+    ensures { words_text result ≡ text_line error.now }
+{
+    match error {
+        TextError::NotToml => Words::Alone("instance T1"),
+        TextError::UnknownKey { place } => Words::At("instance T2 ", table_words(*place)),
+        TextError::MissingKey { place, key } => {
+            Words::Named("instance T3 ", table_words(*place), key.text())
         }
+        TextError::WrongKind { place, key } => {
+            Words::Named("instance T4 ", table_words(*place), key.text())
+        }
+        TextError::OutOfRange { place, key } => {
+            Words::Named("instance T5 ", table_words(*place), key.text())
+        }
+        TextError::UnknownName { place, key } => {
+            Words::Named("instance T6 ", table_words(*place), key.text())
+        }
+        TextError::Model(error) => model_words(error),
+        TextError::OutOfMemory => Words::Alone("memory"),
     }
 }
 
-#[derive(Drop)]
-struct TextLine<'a>(&'a TextError);
-
-impl<'a> fmt::Display for TextLine<'a> {
-    ghost output = { λ x. Some (text_line x.0.now) };
-
-    fn fmt<W: fmt::Write>(&self, f: &mut fmt::Formatter<W>) -> fmt::Result {
-        match self.0 {
-            TextError::NotToml => write!(f, "instance T1"),
-            TextError::UnknownKey { place } => write!(f, "instance T2 {}", TableWords(*place)),
-            TextError::MissingKey { place, key } => {
-                write!(f, "instance T3 {} {}", TableWords(*place), key.text())
-            }
-            TextError::WrongKind { place, key } => {
-                write!(f, "instance T4 {} {}", TableWords(*place), key.text())
-            }
-            TextError::OutOfRange { place, key } => {
-                write!(f, "instance T5 {} {}", TableWords(*place), key.text())
-            }
-            TextError::UnknownName { place, key } => {
-                write!(f, "instance T6 {} {}", TableWords(*place), key.text())
-            }
-            TextError::Model(error) => write!(f, "{}", ModelLine(error)),
-            TextError::OutOfMemory => write!(f, "memory"),
-        }
+fn line_code(fault: LineFault) -> &'static str
+    ensures { result.now ≡ line_code fault }
+{
+    match fault {
+        LineFault::Form => "F1",
+        LineFault::Name => "F2",
+        LineFault::Order => "F3",
+        LineFault::Number => "F4",
+        LineFault::EarlyEnd => "F5",
+        LineFault::Trailing => "F6",
     }
 }
 
-#[derive(Drop)]
-struct LineCode(LineFault);
-
-impl fmt::Display for LineCode {
-    ghost output = { λ x. Some (line_code x.0) };
-
-    fn fmt<W: fmt::Write>(&self, f: &mut fmt::Formatter<W>) -> fmt::Result {
-        match self.0 {
-            LineFault::Form => write!(f, "F1"),
-            LineFault::Name => write!(f, "F2"),
-            LineFault::Order => write!(f, "F3"),
-            LineFault::Number => write!(f, "F4"),
-            LineFault::EarlyEnd => write!(f, "F5"),
-            LineFault::Trailing => write!(f, "F6"),
-        }
+fn plan_text_words(error: PlanTextError) -> Words<'static>
+    ensures { words_text result ≡ plan_text_line error }
+{
+    match error {
+        PlanTextError::At { line, fault } => Words::Coded("plan ", line_code(fault), line as u64),
+        PlanTextError::OutOfMemory => Words::Alone("memory"),
     }
 }
 
-#[derive(Drop)]
-struct PlanTextLine(PlanTextError);
-
-impl fmt::Display for PlanTextLine {
-    ghost output = { λ x. Some (plan_text_line x.0) };
-
-    fn fmt<W: fmt::Write>(&self, f: &mut fmt::Formatter<W>) -> fmt::Result {
-        match self.0 {
-            PlanTextError::At { line, fault } => write!(f, "plan {} {line}", LineCode(fault)),
-            PlanTextError::OutOfMemory => write!(f, "memory"),
-        }
-    }
-}
-
-fn list_number(list: PlanPart) -> u32
+fn list_number(list: PlanPart) -> u64
     ensures { result ≡ plan_list_number list }
 {
     match list {
@@ -179,150 +131,132 @@ fn list_number(list: PlanPart) -> u32
     }
 }
 
-#[derive(Drop)]
-struct PlanLine(PlanFault);
-
-impl fmt::Display for PlanLine {
-    ghost output = { λ x. Some (plan_line x.0) };
-
-    fn fmt<W: fmt::Write>(&self, f: &mut fmt::Formatter<W>) -> fmt::Result {
-        match self.0 {
-            PlanFault::WrongLength(list) => write!(f, "plan V1 {}", list_number(list)),
-            PlanFault::WrongOrder(k) => write!(f, "plan V2 {k}"),
-            PlanFault::WrongCapacity(n) => write!(f, "plan V3 {n}"),
-            PlanFault::TooEarly(p) => write!(f, "plan V4 {p}"),
-            PlanFault::TooLate(p) => write!(f, "plan V5 {p}"),
-            PlanFault::Overlap(p, q) => write!(f, "plan V6 {p} {q}"),
-            PlanFault::BrokenLink(l) => write!(f, "plan V7 {l}"),
-            PlanFault::NotReady(m) => write!(f, "plan V8 {m}"),
-            PlanFault::NotArrived(m, q) => write!(f, "plan V9 {m} {q}"),
-            PlanFault::Overfull(n, r) => write!(f, "plan V10 {n} {r}"),
-            PlanFault::OverfullOn(n, r, c) => write!(f, "plan V10 {n} {r} {c}"),
-            PlanFault::WrongChannel(m) => write!(f, "plan V11 {m}"),
+fn plan_words(fault: PlanFault) -> Words<'static>
+    ensures { words_text result ≡ plan_line fault }
+{
+    match fault {
+        PlanFault::WrongLength(list) => Words::Number("plan V1 ", list_number(list)),
+        PlanFault::WrongOrder(k) => Words::Number("plan V2 ", k as u64),
+        PlanFault::WrongCapacity(n) => Words::Number("plan V3 ", n as u64),
+        PlanFault::TooEarly(p) => Words::Number("plan V4 ", p as u64),
+        PlanFault::TooLate(p) => Words::Number("plan V5 ", p as u64),
+        PlanFault::Overlap(p, q) => Words::Two("plan V6 ", p as u64, q as u64),
+        PlanFault::BrokenLink(l) => Words::Number("plan V7 ", l as u64),
+        PlanFault::NotReady(m) => Words::Number("plan V8 ", m as u64),
+        PlanFault::NotArrived(m, q) => Words::Two("plan V9 ", m as u64, q as u64),
+        PlanFault::Overfull(n, r) => Words::Two("plan V10 ", n as u64, r as u64),
+        PlanFault::OverfullOn(n, r, c) => {
+            Words::Three("plan V10 ", n as u64, r as u64, c as u64)
         }
+        PlanFault::WrongChannel(m) => Words::Number("plan V11 ", m as u64),
     }
 }
 
-#[derive(Drop)]
-struct CertificateLineCode(certificate::LineFault);
-
-impl fmt::Display for CertificateLineCode {
-    ghost output = { λ x. Some (certificate_line_code x.0) };
-
-    fn fmt<W: fmt::Write>(&self, f: &mut fmt::Formatter<W>) -> fmt::Result {
-        match self.0 {
-            certificate::LineFault::FirstLine => write!(f, "G1"),
-            certificate::LineFault::Form => write!(f, "G2"),
-            certificate::LineFault::Number => write!(f, "G3"),
-            certificate::LineFault::Depth => write!(f, "G4"),
-            certificate::LineFault::EarlyEnd => write!(f, "G5"),
-            certificate::LineFault::Trailing => write!(f, "G6"),
-        }
+fn certificate_line_code(fault: certificate::LineFault) -> &'static str
+    ensures { result.now ≡ certificate_line_code fault }
+{
+    match fault {
+        certificate::LineFault::FirstLine => "G1",
+        certificate::LineFault::Form => "G2",
+        certificate::LineFault::Number => "G3",
+        certificate::LineFault::Depth => "G4",
+        certificate::LineFault::EarlyEnd => "G5",
+        certificate::LineFault::Trailing => "G6",
     }
 }
 
-#[derive(Drop)]
-struct CertificateTextLine(CertTextError);
-
-impl fmt::Display for CertificateTextLine {
-    ghost output = { λ x. Some (certificate_text_line x.0) };
-
-    fn fmt<W: fmt::Write>(&self, f: &mut fmt::Formatter<W>) -> fmt::Result {
-        match self.0 {
-            CertTextError::At { line, fault } => {
-                write!(f, "certificate {} {line}", CertificateLineCode(fault))
-            }
-            CertTextError::OutOfMemory => write!(f, "memory"),
+fn certificate_text_words(error: CertTextError) -> Words<'static>
+    ensures { words_text result ≡ certificate_text_line error }
+{
+    match error {
+        CertTextError::At { line, fault } => {
+            Words::Coded("certificate ", certificate_line_code(fault), line)
         }
+        CertTextError::OutOfMemory => Words::Alone("memory"),
     }
 }
 
-#[derive(Drop)]
-struct NodeCode(NodeFault);
-
-impl fmt::Display for NodeCode {
-    ghost output = { λ x. Some (node_code x.0) };
-
-    fn fmt<W: fmt::Write>(&self, f: &mut fmt::Formatter<W>) -> fmt::Result {
-        match self.0 {
-            NodeFault::ChildCount => write!(f, "C1"),
-            NodeFault::NotOpen => write!(f, "C2"),
-            NodeFault::LowGoal => write!(f, "C3"),
-            NodeFault::RefusedStep => write!(f, "C4"),
-            NodeFault::NotClosed => write!(f, "C5"),
-        }
+fn node_code(fault: NodeFault) -> &'static str
+    ensures { result.now ≡ node_code fault }
+{
+    match fault {
+        NodeFault::ChildCount => "C1",
+        NodeFault::NotOpen => "C2",
+        NodeFault::LowGoal => "C3",
+        NodeFault::RefusedStep => "C4",
+        NodeFault::NotClosed => "C5",
     }
 }
 
-#[derive(Drop)]
-struct CertificateLine(CertFault);
-
-impl fmt::Display for CertificateLine {
-    ghost output = { λ x. Some (certificate_line x.0) };
-
-    fn fmt<W: fmt::Write>(&self, f: &mut fmt::Formatter<W>) -> fmt::Result {
-        match self.0 {
-            CertFault::LowTooGreat => write!(f, "certificate C6 2"),
-            CertFault::At { line, fault } => write!(f, "certificate {} {line}", NodeCode(fault)),
-            CertFault::OutOfMemory => write!(f, "memory"),
-        }
+fn certificate_words(fault: CertFault) -> Words<'static>
+    ensures { words_text result ≡ certificate_line fault }
+{
+    match fault {
+        CertFault::LowTooGreat => Words::Alone("certificate C6 2"),
+        CertFault::At { line, fault } => Words::Coded("certificate ", node_code(fault), line),
+        CertFault::OutOfMemory => Words::Alone("memory"),
     }
 }
 
-#[derive(Drop)]
-struct SearchLine(SearchFault);
-
-impl fmt::Display for SearchLine {
-    ghost output = { λ x. Some (search_line x.0) };
-
-    fn fmt<W: fmt::Write>(&self, f: &mut fmt::Formatter<W>) -> fmt::Result {
-        match self.0 {
-            SearchFault::Memory => write!(f, "memory"),
-            SearchFault::Thread => write!(f, "solve thread"),
-        }
+fn search_words(fault: SearchFault) -> &'static str
+    ensures { result.now ≡ search_line fault }
+{
+    match fault {
+        SearchFault::Memory => "memory",
+        SearchFault::Thread => "solve thread",
     }
 }
 
-#[derive(Drop)]
-struct SourceWord(Source);
-
-impl fmt::Display for SourceWord {
-    ghost output = { λ x. Some (source_word x.0) };
-
-    fn fmt<W: fmt::Write>(&self, f: &mut fmt::Formatter<W>) -> fmt::Result {
-        match self.0 {
-            Source::Instance => write!(f, "instance"),
-            Source::Plan => write!(f, "plan"),
-            Source::Certificate => write!(f, "certificate"),
-        }
+fn source_word(source: Source) -> &'static str
+    ensures { result.now ≡ source_word source }
+{
+    match source {
+        Source::Instance => "instance",
+        Source::Plan => "plan",
+        Source::Certificate => "certificate",
     }
 }
 
-#[derive(Drop)]
-struct SinkWord(Sink);
-
-impl fmt::Display for SinkWord {
-    ghost output = { λ x. Some (sink_word x.0) };
-
-    fn fmt<W: fmt::Write>(&self, f: &mut fmt::Formatter<W>) -> fmt::Result {
-        match self.0 {
-            Sink::Certificate => write!(f, "certificate"),
-            Sink::Reduced => write!(f, "reduced"),
-            Sink::Plan => write!(f, "plan"),
-            Sink::Out => write!(f, "out"),
-        }
+fn sink_word(sink: Sink) -> &'static str
+    ensures { result.now ≡ sink_word sink }
+{
+    match sink {
+        Sink::Certificate => "certificate",
+        Sink::Reduced => "reduced",
+        Sink::Plan => "plan",
+        Sink::Out => "out",
     }
 }
 
-#[derive(Drop)]
-struct RoundsWords(Rounds);
-
-impl fmt::Display for RoundsWords {
-    ghost output = { λ x. Some (rounds_words x.0) };
-
-    fn fmt<W: fmt::Write>(&self, f: &mut fmt::Formatter<W>) -> fmt::Result {
-        let (needed, held) = (self.0.needed, self.0.held);
-        write!(f, "{needed} {held}")
+fn fault_words(fault: &Fault) -> Words<'_>
+    ensures { words_text result ≡ fault_line fault.now }
+{
+    match fault {
+        Fault::NoMark => Words::Alone("usage bundle"),
+        Fault::LossForm(k) => Words::Number("usage loss ", *k as u64),
+        Fault::InstanceText(error) => text_words(error),
+        Fault::Memory => Words::Alone("memory"),
+        Fault::PlanText(error) => plan_text_words(*error),
+        Fault::Plan(fault) => plan_words(*fault),
+        Fault::StatedDelay(delay) => Words::Number("plan D1 ", *delay),
+        Fault::CertificateText(error) => certificate_text_words(*error),
+        Fault::Certificate(fault) => certificate_words(*fault),
+        Fault::DeepCertificate(line) => Words::Number("certificate deep ", *line),
+        Fault::TooFewNodes => Words::Alone("replay N1"),
+        Fault::WrongLoss(k) => Words::Number("replay N2 ", *k as u64),
+        Fault::NoSuchProcess(k) => Words::Number("limit name ", *k as u64),
+        Fault::NoSuchRunner(k) => Words::Number("margin name ", *k as u64),
+        Fault::TooManySlots(count) => Words::Number("draw slots ", *count),
+        Fault::LongSchedule(count) => Words::Number("schedule slots ", *count),
+        Fault::NoSuchNode => Words::Alone("schedule node"),
+        Fault::ShortPeriod(rounds) => Words::Two("period rounds ", rounds.needed, rounds.held),
+        Fault::ShortTables(rounds) => Words::Two("tables rounds ", rounds.needed, rounds.held),
+        Fault::LongTables(count) => Words::Number("tables slots ", *count),
+        Fault::Search(fault) => Words::Alone(search_words(*fault)),
+        Fault::Unread(source) | Fault::TooLong(source) => {
+            Words::At("read ", PlaceWords::Alone(source_word(*source)))
+        }
+        Fault::Unwritten(sink) => Words::At("write ", PlaceWords::Alone(sink_word(*sink))),
     }
 }
 
@@ -330,32 +264,6 @@ impl fmt::Display for Fault {
     ghost output = { λ x. Some (fault_line x) };
 
     fn fmt<W: fmt::Write>(&self, f: &mut fmt::Formatter<W>) -> fmt::Result {
-        match self {
-            Fault::NoMark => write!(f, "usage bundle"),
-            Fault::LossForm(k) => write!(f, "usage loss {k}"),
-            Fault::InstanceText(error) => write!(f, "{}", TextLine(error)),
-            Fault::Memory => write!(f, "memory"),
-            Fault::PlanText(error) => write!(f, "{}", PlanTextLine(*error)),
-            Fault::Plan(fault) => write!(f, "{}", PlanLine(*fault)),
-            Fault::StatedDelay(delay) => write!(f, "plan D1 {delay}"),
-            Fault::CertificateText(error) => write!(f, "{}", CertificateTextLine(*error)),
-            Fault::Certificate(fault) => write!(f, "{}", CertificateLine(*fault)),
-            Fault::DeepCertificate(line) => write!(f, "certificate deep {line}"),
-            Fault::TooFewNodes => write!(f, "replay N1"),
-            Fault::WrongLoss(k) => write!(f, "replay N2 {k}"),
-            Fault::NoSuchProcess(k) => write!(f, "limit name {k}"),
-            Fault::NoSuchRunner(k) => write!(f, "margin name {k}"),
-            Fault::TooManySlots(count) => write!(f, "draw slots {count}"),
-            Fault::LongSchedule(count) => write!(f, "schedule slots {count}"),
-            Fault::NoSuchNode => write!(f, "schedule node"),
-            Fault::ShortPeriod(rounds) => write!(f, "period rounds {}", RoundsWords(*rounds)),
-            Fault::ShortTables(rounds) => write!(f, "tables rounds {}", RoundsWords(*rounds)),
-            Fault::LongTables(count) => write!(f, "tables slots {count}"),
-            Fault::Search(fault) => write!(f, "{}", SearchLine(*fault)),
-            Fault::Unread(source) | Fault::TooLong(source) => {
-                write!(f, "read {}", SourceWord(*source))
-            }
-            Fault::Unwritten(sink) => write!(f, "write {}", SinkWord(*sink)),
-        }
+        write!(f, "{}", fault_words(self))
     }
 }

@@ -1,5 +1,5 @@
 pub mod TreeHeights
-pub mod RuledOut
+pub mod DroppedTrees
 pub mod Marks
 pub mod Below
 pub mod Leaves

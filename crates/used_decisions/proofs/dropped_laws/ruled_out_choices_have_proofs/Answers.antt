@@ -1,4 +1,4 @@
-use Rattle.used_decisions.proofs.RuledOut.{proof_of}
+use Rattle.used_decisions.proofs.DroppedTrees.{proof_of}
 use Rattle.used_decisions.proofs.dropped_laws.ruled_out_choices_have_proofs.Goals as goal
 
 pub returns : goal.returns

@@ -13,7 +13,7 @@ use Rattle.tt_choice.proofs.kept.Branches.{branch_kept, places_of, all_of-keep, 
 use Rattle.tt_choice.proofs.kept.Law.{ends}
 use Rattle.tt_infer.specs.RuledOut.{IsRuledOut}
 use Rattle.tt_infer.specs.RuledOut.IsRuledOut.{by_leaf, by_children, by_one}
-use Rattle.used_decisions.proofs.RuledOut.{closes_sharply}
+use Rattle.tt_infer.proofs.shared.RuledOut.{closes_sharply}
 use Rattle.tt_infer.proofs.shared.Uses.{leaf_kept}
 use Rattle.certificate.specs.declared.node.Node.TheVariants as node
 use Rattle.certificate.specs.Branch.{branch_of}

@@ -1,8 +1,8 @@
 use Rattle.std.proofs.Common.{take}
 use Rattle.std.specs.List.{flat_map}
 use Rattle.std.specs.Fmt.{HasWritten, IsPlainFormatter}
-use Rattle.command_streams.specs.Lines.{spaced}
-use Rattle.command_streams.proofs.lines.SpacedDisplay.fmt.Given as goal
+use Rattle.command_streams.specs.Wording.{spaced}
+use Rattle.command_streams.proofs.words.SpacedDisplay.fmt.Given as goal
 
 abbrev pub invariant-loop-n : goal.invariant-loop-n
 invariant-loop-n g l =
