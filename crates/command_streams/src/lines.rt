@@ -140,11 +140,11 @@ fn plan_words(fault: PlanFault) -> Words<'static>
         PlanFault::WrongCapacity(n) => Words::Number("plan V3 ", n as u64),
         PlanFault::TooEarly(p) => Words::Number("plan V4 ", p as u64),
         PlanFault::TooLate(p) => Words::Number("plan V5 ", p as u64),
-        PlanFault::Overlap(p, q) => Words::Two("plan V6 ", p as u64, q as u64),
+        PlanFault::Overlap(p, q) => Words::Two("plan V6 ", p as u128, q as u64),
         PlanFault::BrokenLink(l) => Words::Number("plan V7 ", l as u64),
         PlanFault::NotReady(m) => Words::Number("plan V8 ", m as u64),
-        PlanFault::NotArrived(m, q) => Words::Two("plan V9 ", m as u64, q as u64),
-        PlanFault::Overfull(n, r) => Words::Two("plan V10 ", n as u64, r as u64),
+        PlanFault::NotArrived(m, q) => Words::Two("plan V9 ", m as u128, q as u64),
+        PlanFault::Overfull(n, r) => Words::Two("plan V10 ", n as u128, r as u64),
         PlanFault::OverfullOn(n, r, c) => {
             Words::Three("plan V10 ", n as u64, r as u64, c as u64)
         }
@@ -249,8 +249,8 @@ fn fault_words(fault: &Fault) -> Words<'_>
         Fault::TooManySlots(count) => Words::Number("draw slots ", *count),
         Fault::LongSchedule(count) => Words::Number("schedule slots ", *count),
         Fault::NoSuchNode => Words::Alone("schedule node"),
-        Fault::ShortPeriod(rounds) => Words::Two("period rounds ", rounds.needed, rounds.held),
-        Fault::ShortTables(rounds) => Words::Two("tables rounds ", rounds.needed, rounds.held),
+        Fault::ShortPeriod(rounds) => Words::Two("period rounds ", rounds.needed as u128, rounds.held),
+        Fault::ShortTables(rounds) => Words::Two("tables rounds ", rounds.needed as u128, rounds.held),
         Fault::LongTables(count) => Words::Number("tables slots ", *count),
         Fault::Search(fault) => Words::Alone(search_words(*fault)),
         Fault::Unread(source) | Fault::TooLong(source) => {

@@ -37,6 +37,7 @@ pub use laws::{
 };
 pub use malformed::{MalformedName, NameFault, name_fault};
 pub use near::{NearName, near_name, nearest};
+pub use parts::{link_at, message_name, node_name, process_name};
 pub use ranges::{Outside, OutsideRange};
 pub use reason::{InstanceReason, ReadAgain, reason_of, reread};
 pub use rules::{NoSuchIndex, RuleReason, rule_reason};

@@ -12,3 +12,4 @@ pub mod ReadPlans
 pub mod Repeats
 pub mod Telling
 pub mod ObjectEnds
+pub mod Wording

@@ -94,20 +94,20 @@ spaced_name i p = codes " " ++ process_name i p
 -- the line of a refusal of the instance of a cycle, by names
 abbrev pub named_line : Instance → ModelError → List ℕ
 named_line i (model.Length list) = codes "rates M1 " ++ part_word list
-named_line i (model.NoReceiver m) = codes "rates M1 message " ++ message_name i m
+named_line i (model.NoReceiver m) = codes "rates M1 " ++ named_place i (AtMessage m)
 named_line i (model.NameForm at) = codes "rates M2 " ++ named_place i at
 named_line i (model.NameRepeated at) = codes "rates M3 " ++ named_place i at
 named_line i (model.NoSuchIndex at) = codes "rates M4 " ++ named_place i at
 named_line i (model.OutOfRange at) = codes "rates M5 " ++ named_place i at
-named_line i (model.Capacities n) = codes "rates M6 node " ++ node_name i n
-named_line i (model.ReceiverOnSender m) = codes "rates M7 message " ++ message_name i m
+named_line i (model.Capacities n) = codes "rates M6 " ++ named_place i (AtNode n)
+named_line i (model.ReceiverOnSender m) = codes "rates M7 " ++ named_place i (AtMessage m)
 named_line i model.ShortLead = codes "rates M8"
 named_line i model.ShortTrail = codes "rates M9"
-named_line i (model.Deadline p) = codes "rates M10 process " ++ process_name i p
-named_line i (model.LinkAcross l) = codes "rates M11 link " ++ link_names i l
-named_line i (model.ReceiverTwice m) = codes "rates M12 message " ++ message_name i m
+named_line i (model.Deadline p) = codes "rates M10 " ++ named_place i (AtProcess p)
+named_line i (model.LinkAcross l) = codes "rates M11 " ++ named_place i (AtLink l)
+named_line i (model.ReceiverTwice m) = codes "rates M12 " ++ named_place i (AtMessage m)
 named_line i (model.Cycle ps) = codes "rates M13" ++ flat_map (spaced_name i) ps
-named_line i (model.BothOfOne m) = codes "rates M15 message " ++ message_name i m
+named_line i (model.BothOfOne m) = codes "rates M15 " ++ named_place i (AtMessage m)
 named_line i model.OutOfMemory = codes "memory"
 
 -- the line where there is no instance
