@@ -10,6 +10,7 @@ ghost use Rattle.certificate_reasons.specs.Absent.{IsHalfLacking, IsPairLacking,
 use sentences::Word::{Count, Number, Text};
 use sentences::{Counted, tell};
 use std::fmt;
+use std::fmt::Display;
 use ttp_model::{Instance, Part, Ring};
 
 /// A node, process, link or message that isn't there.
@@ -190,7 +191,7 @@ impl fmt::Display for NoPart {
 impl<'a> fmt::Display for Absent<'a> {
     fn fmt<W: fmt::Write>(&self, f: &mut fmt::Formatter<W>) -> fmt::Result {
         match *self {
-            Absent::Part(lacking) => write!(f, "{lacking}"),
+            Absent::Part(lacking) => lacking.fmt(f),
             Absent::Pair { process, other } => {
                 tell(
                     f,

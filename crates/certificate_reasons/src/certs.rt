@@ -20,6 +20,7 @@ use sentences::Word::Number;
 use sentences::tell;
 use std::alloc::Global;
 use std::fmt;
+use std::fmt::Display;
 use tree_check::{CertFault, NodeFault, Walk};
 use ttp_model::{Instance, MemoryFault};
 
@@ -210,10 +211,10 @@ impl fmt::Display for GreatLow {
 impl<'a> fmt::Display for CertReason<'a> {
     fn fmt<W: fmt::Write>(&self, f: &mut fmt::Formatter<W>) -> fmt::Result {
         let line = self.line;
-        write!(f, "{line}")?;
+        line.fmt(f)?;
         match self.why {
-            NoProof::GreatLow(reason) => write!(f, "{reason}"),
-            NoProof::Node(reason) => write!(f, "{reason}"),
+            NoProof::GreatLow(reason) => reason.fmt(f),
+            NoProof::Node(reason) => reason.fmt(f),
         }
     }
 }

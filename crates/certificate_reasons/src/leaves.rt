@@ -14,6 +14,7 @@ use sentences::Word::{Count, Number};
 use sentences::{Counted, tell};
 use std::alloc::Global;
 use std::fmt;
+use std::fmt::Display;
 use tt_choice::Choice;
 use tt_infer::Facts;
 use ttp_model::{Instance, Leaf, MemoryFault, Step};
@@ -105,7 +106,7 @@ impl<'a> fmt::Display for LeafReason<'a> {
         }
         for k in 0..steps.len() {
             let step = &steps[k];
-            write!(f, "{step}")?;
+            step.fmt(f)?;
         }
         if self.more > 0 {
             let more = Counted {

@@ -12,6 +12,7 @@ use sentences::Word::Number;
 use sentences::tell;
 use std::alloc::Global;
 use std::fmt;
+use std::fmt::Display;
 use tree_check::NodeFault;
 use tt_choice::Choice;
 use ttp_model::{Instance, Leaf, MemoryFault};
@@ -125,10 +126,10 @@ impl fmt::Display for LowGoal {
 impl<'a> fmt::Display for NodeReason<'a> {
     fn fmt<W: fmt::Write>(&self, f: &mut fmt::Formatter<W>) -> fmt::Result {
         match self {
-            NodeReason::ChildCount(reason) => write!(f, "{reason}"),
-            NodeReason::NotOpen(reason) => write!(f, "{reason}"),
-            NodeReason::LowGoal(reason) => write!(f, "{reason}"),
-            NodeReason::RefusedStep(reason) => write!(f, "{reason}"),
+            NodeReason::ChildCount(reason) => reason.fmt(f),
+            NodeReason::NotOpen(reason) => reason.fmt(f),
+            NodeReason::LowGoal(reason) => reason.fmt(f),
+            NodeReason::RefusedStep(reason) => reason.fmt(f),
             NodeReason::NotClosed => {
                 f.write_str(
                     "Its steps leave plans: the last one, and no other, has to be one of those that begin with x-.\n",

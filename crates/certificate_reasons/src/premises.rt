@@ -8,6 +8,7 @@ use crate::move_lacks::{MoveLack, not_earlier, not_mirrored, not_turned};
 use crate::order_lacks::{OrderLack, in_time, no_ring, not_first, not_twins};
 use crate::time_lacks::{TimeLack, no_round, no_round_to, round_left, window_left};
 use std::fmt;
+use std::fmt::Display;
 use tt_infer::Facts;
 use ttp_model::Step;
 
@@ -60,10 +61,10 @@ pub fn lacking_of<'a>(facts: &Facts<'a>, step: &Step) -> Lacking<'a>
 impl<'a> fmt::Display for Lacking<'a> {
     fn fmt<W: fmt::Write>(&self, f: &mut fmt::Formatter<W>) -> fmt::Result {
         match self {
-            Lacking::Order(lack) => write!(f, "{lack}"),
-            Lacking::Time(lack) => write!(f, "{lack}"),
-            Lacking::Load(lack) => write!(f, "{lack}"),
-            Lacking::Move(lack) => write!(f, "{lack}"),
+            Lacking::Order(lack) => lack.fmt(f),
+            Lacking::Time(lack) => lack.fmt(f),
+            Lacking::Load(lack) => lack.fmt(f),
+            Lacking::Move(lack) => lack.fmt(f),
         }
     }
 }

@@ -13,6 +13,7 @@ use crate::whole::read_whole;
 use certificate::{Cert, Node};
 use std::alloc::Global;
 use std::fmt;
+use std::fmt::Display;
 use tt_choice::Choice;
 use ttp_model::{Instance, Leaf, MemoryFault};
 
@@ -73,8 +74,8 @@ pub fn proof_reason<'a>(
 impl<'a> fmt::Display for ProofReason<'a> {
     fn fmt<W: fmt::Write>(&self, f: &mut fmt::Formatter<W>) -> fmt::Result {
         match self {
-            ProofReason::Leaf(reason) => write!(f, "{reason}"),
-            ProofReason::Tree(size) => write!(f, "{size}"),
+            ProofReason::Leaf(reason) => reason.fmt(f),
+            ProofReason::Tree(size) => size.fmt(f),
         }
     }
 }

@@ -72,110 +72,115 @@ pub fn rule_of(step: &Step) -> Rule
 }
 
 impl Rule {
-    /// Its keyword, and what a step of it may conclude.
-    fn says(self) -> (&'static str, &'static str) {
+    /// Its keyword.
+    fn keyword(self) -> &'static str {
         match self {
-            Rule::EsRelease => ("es-release", "a process starts at its release or later"),
-            Rule::EsLink => (
-                "es-link",
-                "the second process of a link starts when the first can have ended, or later",
-            ),
-            Rule::EsBefore => (
-                "es-before",
-                "a process starts when one that is known to run before it on its node can have ended, or later",
-            ),
-            Rule::EsArrive => (
-                "es-arrive",
-                "a receiver starts when the slot of the message's first round can have ended and it is copied in, or later",
-            ),
-            Rule::EsMessage => (
-                "es-message",
-                "a receiver starts when the sender can have ended and the message is copied out, sent and copied in, or later",
-            ),
-            Rule::LoSend => (
-                "lo-send",
-                "a message is sent in the first round whose slot can begin once it is copied out, or later",
-            ),
-            Rule::LeOwn => (
-                "le-own",
-                "a process ends by its deadline, by the horizon, and before the goal of the leaf",
-            ),
-            Rule::LeLink => (
-                "le-link",
-                "the first process of a link ends when the second has to start, or earlier",
-            ),
-            Rule::LeBefore => (
-                "le-before",
-                "a process ends when one that it is known to run before on its node has to start, or earlier",
-            ),
-            Rule::LeMessage => (
-                "le-message",
-                "a sender ends so early that the message is copied out, sent and copied in when a receiver has to start",
-            ),
-            Rule::LeSend => (
-                "le-send",
-                "a sender ends so early that the message is copied out when the slot of its last round begins, where one is left",
-            ),
-            Rule::HiArrive => (
-                "hi-arrive",
-                "a message is sent before the first round whose slot ends too late for a receiver",
-            ),
-            Rule::OrdWindow => (
-                "ord-window",
-                "a process ends before another of its node starts, where it would end too late the other way round",
-            ),
-            Rule::OrdTwin => (
-                "ord-twin",
-                "of two twins the first in the instance ends before the second starts",
-            ),
-            Rule::UsSettled => (
-                "us-settled",
-                "a process starts when all is over that it may have to wait for, where a round is left for each message to it",
-            ),
-            Rule::XWindow => (
-                "x-window",
-                "no plan is left, where a process can't end in time",
-            ),
-            Rule::XRound => ("x-round", "no plan is left, where a message has no round"),
-            Rule::XCycle => (
-                "x-cycle",
-                "no plan is left, where processes wait for each other in a circle",
-            ),
-            Rule::XLoad => (
-                "x-load",
-                "no plan is left, where what has to run on a node from one tick to another takes longer than that",
-            ),
-            Rule::XFrame => (
-                "x-frame",
-                "no plan is left, where a message has more bytes than any frame of its node",
-            ),
-            Rule::XFrames => (
-                "x-frames",
-                "no plan is left, where what a node has to send in some rounds has more bytes than its frames",
-            ),
-            Rule::XChannel => (
-                "x-channel",
-                "no plan is left, where what a node has to send in some rounds on one of two channels has more bytes than its frames",
-            ),
-            Rule::XLate => (
-                "x-late",
-                "no plan is left, where a message could be sent in a round before all that are left to it",
-            ),
-            Rule::XSilent => (
-                "x-silent",
-                "no plan is left, where of two silent twins the second has the earlier slot",
-            ),
-            Rule::XMirror => (
-                "x-mirror",
-                "no plan is left, where the first message of a slot on one channel alone is on channel 1",
-            ),
+            Rule::EsRelease => "es-release",
+            Rule::EsLink => "es-link",
+            Rule::EsBefore => "es-before",
+            Rule::EsArrive => "es-arrive",
+            Rule::EsMessage => "es-message",
+            Rule::LoSend => "lo-send",
+            Rule::LeOwn => "le-own",
+            Rule::LeLink => "le-link",
+            Rule::LeBefore => "le-before",
+            Rule::LeMessage => "le-message",
+            Rule::LeSend => "le-send",
+            Rule::HiArrive => "hi-arrive",
+            Rule::OrdWindow => "ord-window",
+            Rule::OrdTwin => "ord-twin",
+            Rule::UsSettled => "us-settled",
+            Rule::XWindow => "x-window",
+            Rule::XRound => "x-round",
+            Rule::XCycle => "x-cycle",
+            Rule::XLoad => "x-load",
+            Rule::XFrame => "x-frame",
+            Rule::XFrames => "x-frames",
+            Rule::XChannel => "x-channel",
+            Rule::XLate => "x-late",
+            Rule::XSilent => "x-silent",
+            Rule::XMirror => "x-mirror",
+        }
+    }
+
+    /// What a step of it may conclude.
+    fn says(self) -> &'static str {
+        match self {
+            Rule::EsRelease => "a process starts at its release or later",
+            Rule::EsLink => {
+                "the second process of a link starts when the first can have ended, or later"
+            }
+            Rule::EsBefore => {
+                "a process starts when one that is known to run before it on its node can have ended, or later"
+            }
+            Rule::EsArrive => {
+                "a receiver starts when the slot of the message's first round can have ended and it is copied in, or later"
+            }
+            Rule::EsMessage => {
+                "a receiver starts when the sender can have ended and the message is copied out, sent and copied in, or later"
+            }
+            Rule::LoSend => {
+                "a message is sent in the first round whose slot can begin once it is copied out, or later"
+            }
+            Rule::LeOwn => {
+                "a process ends by its deadline, by the horizon, and before the goal of the leaf"
+            }
+            Rule::LeLink => {
+                "the first process of a link ends when the second has to start, or earlier"
+            }
+            Rule::LeBefore => {
+                "a process ends when one that it is known to run before on its node has to start, or earlier"
+            }
+            Rule::LeMessage => {
+                "a sender ends so early that the message is copied out, sent and copied in when a receiver has to start"
+            }
+            Rule::LeSend => {
+                "a sender ends so early that the message is copied out when the slot of its last round begins, where one is left"
+            }
+            Rule::HiArrive => {
+                "a message is sent before the first round whose slot ends too late for a receiver"
+            }
+            Rule::OrdWindow => {
+                "a process ends before another of its node starts, where it would end too late the other way round"
+            }
+            Rule::OrdTwin => "of two twins the first in the instance ends before the second starts",
+            Rule::UsSettled => {
+                "a process starts when all is over that it may have to wait for, where a round is left for each message to it"
+            }
+            Rule::XWindow => "no plan is left, where a process can't end in time",
+            Rule::XRound => "no plan is left, where a message has no round",
+            Rule::XCycle => "no plan is left, where processes wait for each other in a circle",
+            Rule::XLoad => {
+                "no plan is left, where what has to run on a node from one tick to another takes longer than that"
+            }
+            Rule::XFrame => {
+                "no plan is left, where a message has more bytes than any frame of its node"
+            }
+            Rule::XFrames => {
+                "no plan is left, where what a node has to send in some rounds has more bytes than its frames"
+            }
+            Rule::XChannel => {
+                "no plan is left, where what a node has to send in some rounds on one of two channels has more bytes than its frames"
+            }
+            Rule::XLate => {
+                "no plan is left, where a message could be sent in a round before all that are left to it"
+            }
+            Rule::XSilent => {
+                "no plan is left, where of two silent twins the second has the earlier slot"
+            }
+            Rule::XMirror => {
+                "no plan is left, where the first message of a slot on one channel alone is on channel 1"
+            }
         }
     }
 }
 
 impl fmt::Display for Rule {
     fn fmt<W: fmt::Write>(&self, f: &mut fmt::Formatter<W>) -> fmt::Result {
-        let (keyword, says) = self.says();
-        tell(f, "{} says that {}.", &[Text(keyword), Text(says)])
+        tell(
+            f,
+            "{} says that {}.",
+            &[Text(self.keyword()), Text(self.says())],
+        )
     }
 }

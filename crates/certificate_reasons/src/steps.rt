@@ -18,6 +18,7 @@ use crate::starts::{
 };
 use std::alloc::Global;
 use std::fmt;
+use std::fmt::Display;
 use tt_infer::{Facts, target, value};
 use ttp_model::{MemoryFault, Step};
 
@@ -108,13 +109,13 @@ pub fn told_step<'a>(
 impl<'a> fmt::Display for StepReason<'a> {
     fn fmt<W: fmt::Write>(&self, f: &mut fmt::Formatter<W>) -> fmt::Result {
         match self {
-            StepReason::Start(reason) => write!(f, "{reason}"),
-            StepReason::End(reason) => write!(f, "{reason}"),
-            StepReason::Round(reason) => write!(f, "{reason}"),
-            StepReason::Order(reason) => write!(f, "{reason}"),
-            StepReason::Closer(reason) => write!(f, "{reason}"),
-            StepReason::Load(reason) => write!(f, "{reason}"),
-            StepReason::Dominance(reason) => write!(f, "{reason}"),
+            StepReason::Start(reason) => reason.fmt(f),
+            StepReason::End(reason) => reason.fmt(f),
+            StepReason::Round(reason) => reason.fmt(f),
+            StepReason::Order(reason) => reason.fmt(f),
+            StepReason::Closer(reason) => reason.fmt(f),
+            StepReason::Load(reason) => reason.fmt(f),
+            StepReason::Dominance(reason) => reason.fmt(f),
         }
     }
 }

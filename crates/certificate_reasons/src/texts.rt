@@ -8,6 +8,7 @@ use certificate::{LineFault, MOST_BRANCHES_ABOVE};
 use sentences::Word::Number;
 use sentences::tell;
 use std::fmt;
+use std::fmt::Display;
 
 /// The line of a text that is at fault, and what has to stand there.
 #[derive(Clone, Copy)]
@@ -69,7 +70,7 @@ fn write_form<W: fmt::Write>(f: &mut fmt::Formatter<W>, place: LinePlace) -> fmt
 impl<'a> fmt::Display for TextReason<'a> {
     fn fmt<W: fmt::Write>(&self, f: &mut fmt::Formatter<W>) -> fmt::Result {
         let (line, place) = (self.line, self.place);
-        write!(f, "{line}")?;
+        line.fmt(f)?;
         match self.fault {
             LineFault::FirstLine | LineFault::Form => {
                 writeln!(f, "  {}", self.fault)?;

@@ -249,8 +249,16 @@ fn fault_words(fault: &Fault) -> Words<'_>
         Fault::TooManySlots(count) => Words::Number("draw slots ", *count),
         Fault::LongSchedule(count) => Words::Number("schedule slots ", *count),
         Fault::NoSuchNode => Words::Alone("schedule node"),
-        Fault::ShortPeriod(rounds) => Words::Two("period rounds ", rounds.needed as u128, rounds.held),
-        Fault::ShortTables(rounds) => Words::Two("tables rounds ", rounds.needed as u128, rounds.held),
+        Fault::ShortPeriod(rounds) => Words::Two(
+            "period rounds ",
+            rounds.needed as u128,
+            rounds.held,
+        ),
+        Fault::ShortTables(rounds) => Words::Two(
+            "tables rounds ",
+            rounds.needed as u128,
+            rounds.held,
+        ),
         Fault::LongTables(count) => Words::Number("tables slots ", *count),
         Fault::Search(fault) => Words::Alone(search_words(*fault)),
         Fault::Unread(source) | Fault::TooLong(source) => {

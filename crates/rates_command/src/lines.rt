@@ -98,20 +98,41 @@ fn named_words<'a>(tables: &'a Parts, error: &'a ModelError) -> NamedWords<'a>
 {
     match error {
         ModelError::Length(list) => NamedWords::OfList("rates M1 ", part_word(*list)),
-        ModelError::NoReceiver(m) => NamedWords::At("rates M1 ", NamedPlace(tables, Place::AtMessage(*m))),
+        ModelError::NoReceiver(m) => NamedWords::At(
+            "rates M1 ",
+            NamedPlace(tables, Place::AtMessage(*m)),
+        ),
         ModelError::NameForm(place) => NamedWords::At("rates M2 ", NamedPlace(tables, *place)),
         ModelError::NameRepeated(place) => NamedWords::At("rates M3 ", NamedPlace(tables, *place)),
         ModelError::NoSuchIndex(place) => NamedWords::At("rates M4 ", NamedPlace(tables, *place)),
         ModelError::OutOfRange(place) => NamedWords::At("rates M5 ", NamedPlace(tables, *place)),
-        ModelError::Capacities(n) => NamedWords::At("rates M6 ", NamedPlace(tables, Place::AtNode(*n))),
-        ModelError::ReceiverOnSender(m) => NamedWords::At("rates M7 ", NamedPlace(tables, Place::AtMessage(*m))),
+        ModelError::Capacities(n) => NamedWords::At(
+            "rates M6 ",
+            NamedPlace(tables, Place::AtNode(*n)),
+        ),
+        ModelError::ReceiverOnSender(m) => NamedWords::At(
+            "rates M7 ",
+            NamedPlace(tables, Place::AtMessage(*m)),
+        ),
         ModelError::ShortLead => NamedWords::Alone("rates M8"),
         ModelError::ShortTrail => NamedWords::Alone("rates M9"),
-        ModelError::Deadline(p) => NamedWords::At("rates M10 ", NamedPlace(tables, Place::AtProcess(*p))),
-        ModelError::LinkAcross(l) => NamedWords::At("rates M11 ", NamedPlace(tables, Place::AtLink(*l))),
-        ModelError::ReceiverTwice(m) => NamedWords::At("rates M12 ", NamedPlace(tables, Place::AtMessage(*m))),
+        ModelError::Deadline(p) => NamedWords::At(
+            "rates M10 ",
+            NamedPlace(tables, Place::AtProcess(*p)),
+        ),
+        ModelError::LinkAcross(l) => NamedWords::At(
+            "rates M11 ",
+            NamedPlace(tables, Place::AtLink(*l)),
+        ),
+        ModelError::ReceiverTwice(m) => NamedWords::At(
+            "rates M12 ",
+            NamedPlace(tables, Place::AtMessage(*m)),
+        ),
         ModelError::Cycle(ps) => NamedWords::All("rates M13", SpacedNames(tables, ps.as_slice())),
-        ModelError::BothOfOne(m) => NamedWords::At("rates M15 ", NamedPlace(tables, Place::AtMessage(*m))),
+        ModelError::BothOfOne(m) => NamedWords::At(
+            "rates M15 ",
+            NamedPlace(tables, Place::AtMessage(*m)),
+        ),
         ModelError::OutOfMemory => NamedWords::Alone("memory"),
     }
 }

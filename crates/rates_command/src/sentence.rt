@@ -86,12 +86,13 @@ fn tell_through<W: fmt::Write>(f: &mut fmt::Formatter<W>, spot: Spot, number: u6
     )
 }
 
-/// Tells which number is outside its range.
+/// Tells which number is outside its range, where so many ticks of all times make one of the text.
 fn tell_outside<W: fmt::Write>(
     f: &mut fmt::Formatter<W>,
     spot: Spot,
     key: RatesKey,
     number: u32,
+    finer: u32,
 ) -> fmt::Result {
     let (least, most) = range_at(key);
     spot.tell_within(f)?;
@@ -104,7 +105,8 @@ fn tell_outside<W: fmt::Write>(
             Number(least),
             Number(most),
         ],
-    )
+    )?;
+    end_in_ticks(f, finer_at(key, finer))
 }
 
 /// Tells which process has no room in its period.
@@ -112,6 +114,7 @@ fn tell_no_room<W: fmt::Write>(
     f: &mut fmt::Formatter<W>,
     spot: Spot,
     times: RatesTimes,
+    finer: u32,
 ) -> fmt::Result {
     spot.tell_within(f)?;
     let (release, wcet) = (u64::from(times.release), u64::from(times.wcet));
@@ -126,7 +129,8 @@ fn tell_no_room<W: fmt::Write>(
             Number(deadline),
             Number(period),
         ],
-    )
+    )?;
+    end_in_ticks(f, finer)
 }
 
 /// Tells what reads nothing of what stands before it in a chain.
@@ -144,71 +148,88 @@ fn tell_unread<W: fmt::Write>(
     )
 }
 
+/// Tells what is wrong in a table, in words alone.
+fn tell_at<W: fmt::Write>(f: &mut fmt::Formatter<W>, spot: Spot, wrong: &str) -> fmt::Result {
+    spot.tell_within(f)?;
+    f.write_str(wrong)
+}
+
+/// Tells that the slots take longer than the round that is asked for.
+fn tell_short_round<W: fmt::Write>(
+    f: &mut fmt::Formatter<W>,
+    slots: u128,
+    round: u32,
+) -> fmt::Result {
+    write!(f, "The slots take {slots}")?;
+    tell(
+        f,
+        " ticks, and the round that is asked for has {}.\n",
+        &[Number(u64::from(round))],
+    )
+}
+
+/// Tells that the periods begin together too seldom.
+fn tell_long_cycle<W: fmt::Write>(f: &mut fmt::Formatter<W>, finer: u32) -> fmt::Result {
+    tell(
+        f,
+        "The least common multiple of all periods is above {}",
+        &[Number(u64::from(MOST_TICKS))],
+    )?;
+    end_in_ticks(f, finer)
+}
+
+/// Tells that a round takes longer than a cycle.
+fn tell_long_round<W: fmt::Write>(
+    f: &mut fmt::Formatter<W>,
+    round: u128,
+    cycle: u32,
+    finer: u32,
+) -> fmt::Result {
+    write!(f, "A round takes {round}")?;
+    tell(
+        f,
+        " ticks, and the cycle, the least common multiple of all periods, has {}",
+        &[Number(u64::from(cycle))],
+    )?;
+    end_in_ticks(f, finer)
+}
+
 impl<'a> fmt::Display for RatesRuleReason<'a> {
     fn fmt<W: fmt::Write>(&self, f: &mut fmt::Formatter<W>) -> fmt::Result {
         match self {
             RatesRuleReason::Count { list, entries } => tell_count(f, *list, *entries),
-            RatesRuleReason::NoReceiver { spot } => {
-                spot.tell_within(f)?;
-                f.write_str("there is no receiver.\n")
-            }
+            RatesRuleReason::NoReceiver { spot } => tell_at(f, *spot, "there is no receiver.\n"),
             RatesRuleReason::Through { spot, entries } => tell_through(f, *spot, *entries),
             RatesRuleReason::Malformed(reason) => reason.fmt(f),
-            RatesRuleReason::Repeated { spot } => {
-                spot.tell_within(f)?;
-                f.write_str("one before it in its list has the same name.\n")
-            }
+            RatesRuleReason::Repeated { spot } => tell_at(
+                f,
+                *spot,
+                "one before it in its list has the same name.\n",
+            ),
             RatesRuleReason::NoSuchIndex { spot } => {
-                spot.tell_within(f)?;
-                f.write_str("what it names isn't there.\n")
+                tell_at(f, *spot, "what it names isn't there.\n")
             }
             RatesRuleReason::Outside {
                 spot,
                 key,
                 number,
                 finer,
-            } => {
-                tell_outside(f, *spot, *key, *number)?;
-                end_in_ticks(f, finer_at(*key, *finer))
-            }
+            } => tell_outside(f, *spot, *key, *number, *finer),
             RatesRuleReason::NoRoom { spot, times, finer } => {
-                tell_no_room(f, *spot, *times)?;
-                end_in_ticks(f, *finer)
+                tell_no_room(f, *spot, *times, *finer)
             }
             RatesRuleReason::Unread {
                 spot,
                 before,
                 process,
             } => tell_unread(f, *spot, before, process),
-            RatesRuleReason::ShortRound { slots, round } => {
-                write!(f, "The slots take {slots}")?;
-                tell(
-                    f,
-                    " ticks, and the round that is asked for has {}.\n",
-                    &[Number(u64::from(*round))],
-                )
-            }
-            RatesRuleReason::LongCycle { finer } => {
-                tell(
-                    f,
-                    "The least common multiple of all periods is above {}",
-                    &[Number(u64::from(MOST_TICKS))],
-                )?;
-                end_in_ticks(f, *finer)
-            }
+            RatesRuleReason::ShortRound { slots, round } => tell_short_round(f, *slots, *round),
+            RatesRuleReason::LongCycle { finer } => tell_long_cycle(f, *finer),
             RatesRuleReason::LongRound {
                 round,
                 cycle,
                 finer,
-            } => {
-                write!(f, "A round takes {round}")?;
-                tell(
-                    f,
-                    " ticks, and the cycle, the least common multiple of all periods, has {}",
-                    &[Number(u64::from(*cycle))],
-                )?;
-                end_in_ticks(f, *finer)
-            }
+            } => tell_long_round(f, *round, *cycle, *finer),
         }
     }
 }
