@@ -1,6 +1,7 @@
 //! What is told of an instance's bytes?
 
 ghost use Rattle.std.specs.Prelude.{◌≡◌, ◌≤◌, ◌==◌, IfErr, IfOk, length, string_bytes};
+ghost use Rattle.instance_reasons.specs.Reasons.{IsInstanceReason};
 ghost use Rattle.command_streams.specs.Endings.{fault_status};
 ghost use Rattle.command_streams.specs.Instances.{IsInstanceFault};
 ghost use Rattle.command_streams.specs.declared.ending.Fault.TheVariants as fault;
@@ -10,7 +11,7 @@ ghost use Rattle.explain_command.specs.Instances.{IsStatedOf, TellsRefused};
 use crate::mistaken::in_place_of_instance;
 use crate::telling::put_line;
 use command_streams::{Fault, INSTANCE_LIMIT, instance_of_text};
-use instance_reasons::{reason_of, reread};
+use instance_reasons::{InstanceReason, reason_of, reread};
 use instance_text::TextError;
 use json_answers::Reasons;
 use sentences::put;
@@ -37,6 +38,25 @@ fn is_of_text(error: &TextError) -> bool
     }
 }
 
+/// The line of a text's fault, its reason behind, and what the bytes are like.
+fn told_behind(
+    alloc: Global,
+    bytes: &[u8],
+    wrong: TextError,
+    reason: &InstanceReason<'_>,
+) -> Result<String, MemoryFault>
+    requires first { IsInstanceFault bytes.now (fault.InstanceText wrong) }
+    requires status { fault_status (fault.InstanceText wrong) ≡ 3 }
+    requires is { IsInstanceReason bytes.now wrong reason.now }
+    ensures { IfOk result (λ text. TellsRefused bytes.now (string_bytes text)) }
+{
+    let mut text = String::new(alloc);
+    put_line(&mut text, &Fault::InstanceText(wrong))?;
+    put(alloc, &mut text, reason)?;
+    text.push_str(in_place_of_instance(bytes))?;
+    Ok(text)
+}
+
 /// Why bytes state no instance.
 fn told_refusal(
     alloc: Global,
@@ -51,11 +71,7 @@ fn told_refusal(
     let again = reread(alloc, bytes, &wrong)?;
     let reason = reason_of(alloc, &again, &wrong)?;
     reasons.push(alloc, "reason", &reason)?;
-    let mut text = String::new(alloc);
-    put_line(&mut text, &Fault::InstanceText(wrong))?;
-    put(alloc, &mut text, &reason)?;
-    text.push_str(in_place_of_instance(bytes))?;
-    Ok(text)
+    told_behind(alloc, bytes, wrong, &reason)
 }
 
 /// What is told of an error of bytes.

@@ -6,12 +6,13 @@ ghost use Rattle.rates_text.specs.declared.error.RatesTextError.TheVariants as t
 ghost use Rattle.rates_text.specs.Faults.{IsFirstRatesFault};
 ghost use Rattle.endless_schedules.specs.Refusals.{IsUnrollFault};
 ghost use Rattle.rates_command.specs.declared.limits.TheConstants.{RATES_LIMIT};
+ghost use Rattle.rates_command.specs.declared.ending.RatesFault.TheVariants.{Text};
 ghost use Rattle.rates_command.specs.Answers.{IsRatesAnswer};
-ghost use Rattle.rates_command.specs.Telling.{IsUntold, TellsBytes, TellsRates, TellsText, TellsUnrolled, line_of};
+ghost use Rattle.rates_command.specs.Telling.{IsUntold, TellsBehind, TellsBytes, TellsRates, TellsText, TellsUnrolled, line_of};
 
 use crate::ending::{RatesEnd, RatesFault};
 use crate::limits::RATES_LIMIT;
-use crate::reason::{rates_reason_of, reread_rates};
+use crate::reason::{RatesReason, rates_reason_of, reread_rates};
 use crate::refused::put_refused;
 use crate::sizes::sizes_of;
 use command_streams::{Stop, take_input, write_text};
@@ -31,6 +32,20 @@ fn put_line(text: &mut String, fault: &RatesFault) -> Result<(), AllocError>
     writeln!(text, "{fault}")
 }
 
+/// The line of a text's fault, and its reason behind.
+fn told_behind(
+    alloc: Global,
+    wrong: RatesTextError,
+    reason: &RatesReason<'_>,
+) -> Result<String, MemoryFault>
+    ensures { IfOk result (λ told. TellsBehind (Text wrong) (string_bytes told)) }
+{
+    let mut text = String::new(alloc);
+    put_line(&mut text, &RatesFault::Text(wrong))?;
+    put(alloc, &mut text, reason)?;
+    Ok(text)
+}
+
 /// What is told of bytes that state no cluster.
 fn told_text(alloc: Global, bytes: &[u8], wrong: RatesTextError) -> Result<String, MemoryFault>
     requires first { IsFirstRatesFault bytes.now wrong }
@@ -39,10 +54,7 @@ fn told_text(alloc: Global, bytes: &[u8], wrong: RatesTextError) -> Result<Strin
 {
     let again = reread_rates(alloc, bytes, wrong)?;
     let reason = rates_reason_of(alloc, &again, wrong)?;
-    let mut text = String::new(alloc);
-    put_line(&mut text, &RatesFault::Text(wrong))?;
-    put(alloc, &mut text, &reason)?;
-    Ok(text)
+    told_behind(alloc, wrong, &reason)
 }
 
 /// What is told of a cluster whose cycle has no instance.
