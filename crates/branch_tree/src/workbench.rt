@@ -91,6 +91,7 @@ impl<'a> Workbench<'a> {
             if kept.goal() == goal {
                 return Ok(kept);
             }
+            drop(kept);
         }
         Propagator::start(alloc, instance, goal)
     }
@@ -112,6 +113,7 @@ impl<'a> Workbench<'a> {
         if take_back(&mut kept, decisions) {
             return Ok(kept);
         }
+        drop(kept);
         Propagator::start(alloc, instance, goal)
     }
 
@@ -130,8 +132,13 @@ impl<'a> Workbench<'a> {
         ensures nothing { self.new.kept ≡ None }
     {
         let mut kept = self.go_back(alloc, instance, decisions, goal)?;
-        go_on(alloc, &mut kept, decisions)?;
-        Ok(kept)
+        match go_on(alloc, &mut kept, decisions) {
+            Ok(()) => Ok(kept),
+            Err(fault) => {
+                drop(kept);
+                Err(fault)
+            }
+        }
     }
 
     /// What was learnt so far, to be kept again.
@@ -145,7 +152,7 @@ impl<'a> Workbench<'a> {
     pub(crate) fn keep(&mut self, kept: Propagator<'a>, lessons: Lessons)
         ensures { self.new.kept ≡ Some kept.entry }
     {
-        self.kept = Some(kept);
+        drop(mem::replace(&mut self.kept, Some(kept)));
         self.lessons = lessons;
     }
 }

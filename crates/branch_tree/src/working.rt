@@ -44,7 +44,9 @@ pub fn work(
     ensures back { IfErr result (λ refused. refused.0 ≡ task) }
 {
     let mut bench = Workbench::new();
-    work_on(alloc, instance, &mut bench, task, goal)
+    let worked = work_on(alloc, instance, &mut bench, task, goal);
+    drop(bench);
+    worked
 }
 
 /// The same with what is kept of the task that was worked last: it goes on from where the two part.
@@ -250,8 +252,9 @@ pub fn root_bound(alloc: Global, instance: &Instance, top: u32) -> Result<u32, M
     let _nodes = instance.nodes();
     let root = Task::root(alloc, instance)?;
     let mut agenda = Agenda::of(alloc, instance)?;
-    let leaf = left_leaf(alloc, &mut agenda, instance, &root, top, &[])?;
-    Ok(leaf.goal)
+    let leaf = left_leaf(alloc, &mut agenda, instance, &root, top, &[]);
+    drop(agenda);
+    Ok(leaf?.goal)
 }
 
 /// Whether propagation closes a task at a goal in ticks. It goes on from what is kept of the task before. For the choice of a task alone:

@@ -261,7 +261,13 @@ impl<'a> Rising<'a> {
 
     /// Of each of so many tasks the last step at which it was closed, and how many may still be tried.
     pub fn known(self, tasks: usize) -> (Vec<u32>, u64) {
-        let Rising { closed, tries, .. } = self;
+        let Rising {
+            bench,
+            closed,
+            tries,
+            ..
+        } = self;
+        drop(bench);
         let mut closed = closed;
         // Where memory is refused for it nothing is known of them.
         if closed.resize(tasks, 0).is_err() {

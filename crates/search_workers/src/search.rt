@@ -226,7 +226,10 @@ impl Search {
         let turns = budget - self.pieces.len() as u64;
         let most = aim(site.instance, aims, &self.best);
         let mut rising = Rising::new(site.alloc, site.instance, order, most, turns);
-        self.take_turns(site, &mut bench, &mut rising, turns, order, aims)
+        let why = self.take_turns(site, &mut bench, &mut rising, turns, order, aims);
+        drop(bench);
+        drop(rising);
+        why
     }
 
     /// Works tasks, the newest first until `part` pieces are made or the gate says that it is late, and then so that the bound rises, by all threads

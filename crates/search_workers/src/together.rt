@@ -173,9 +173,10 @@ impl Search {
         let mut bench = Workbench::new();
         for _turn in 0..stint.turns {
             if !self.turn_below(site, &mut bench, rising, stint.room, aims) {
-                return;
+                break;
             }
         }
+        drop(bench);
     }
 
     /// What was made of the last tasks takes their place, in the room that there is.

@@ -167,6 +167,8 @@ pub fn run_worker_in<J: Searched, G: Gate>(
     let mut bench = Workbench::new();
     let mut needs = Needs::new();
     let (rest, ending) = run.turns(site, word, &mut bench, &mut needs, budget, course);
+    drop(bench);
+    drop(needs);
     let worked = run.pieces.len() as u64;
     run.report(rest, worked, ending)
 }
