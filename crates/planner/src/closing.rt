@@ -51,6 +51,27 @@ pub fn close(
     }
 }
 
+/// Closes tasks with this agenda.
+fn close_all_by(
+    alloc: Global,
+    agenda: &mut Agenda,
+    instance: &Instance,
+    tasks: Vec<Task>,
+    top: u32,
+) -> Result<(Vec<Piece>, u32), MemoryFault>
+    requires { All (IsTask instance.now) tasks.items }
+    ensures { IfOk result (λ r. AreClosed instance.now tasks.items top r.0.items r.1) }
+{
+    let mut closed = Vec::with_capacity(alloc, tasks.len())?;
+    let mut low = top;
+    for task in tasks {
+        let piece = close(alloc, agenda, instance, task, low, last_steps(&closed))?;
+        low = lowered(&piece, low);
+        closed.push(piece)?;
+    }
+    Ok((closed, low))
+}
+
 /// Closes tasks at goals of at most `top` ticks, in order: their leaves, and the least of `top` and
 /// the leaves' goals. None is closed higher than one before it, since the least is all that counts: so most of them take one
 /// propagation, or are closed by the very steps of the one before it.
@@ -63,13 +84,8 @@ pub fn close_all(
     requires { All (IsTask instance.now) tasks.items }
     ensures { IfOk result (λ r. AreClosed instance.now tasks.items top r.0.items r.1) }
 {
-    let mut closed = Vec::with_capacity(alloc, tasks.len())?;
     let mut agenda = Agenda::of(alloc, instance)?;
-    let mut low = top;
-    for task in tasks {
-        let piece = close(alloc, &mut agenda, instance, task, low, last_steps(&closed))?;
-        low = lowered(&piece, low);
-        closed.push(piece)?;
-    }
-    Ok((closed, low))
+    let closed = close_all_by(alloc, &mut agenda, instance, tasks, top);
+    drop(agenda);
+    closed
 }

@@ -18,6 +18,27 @@ pub enum Trial<'a> {
     At(Facts<'a>),
 }
 
+/// Tries whether propagation with this agenda closes a choice at a goal in ticks.
+fn tried_by<'a>(
+    alloc: Global,
+    agenda: &mut Agenda,
+    instance: &'a Instance,
+    choice: &Choice,
+    goal: u32,
+) -> Result<Trial<'a>, MemoryFault>
+    requires { IsChoice instance.now choice.now }
+    ensures { IfOk result (IsTrial instance.now choice.now goal) }
+{
+    let mut steps = Vec::new(alloc);
+    match propagate(alloc, agenda, instance, choice, goal, &mut steps)? {
+        Reached::Closed => {
+            let leaf = closed_leaf(alloc, instance, choice, goal, steps)?;
+            Ok(Trial::Closed(leaf))
+        }
+        Reached::At(facts) => Ok(Trial::At(facts)),
+    }
+}
+
 /// Tries whether propagation closes a choice at a goal in ticks.
 pub fn tried<'a>(
     alloc: Global,
@@ -29,12 +50,7 @@ pub fn tried<'a>(
     ensures { IfOk result (IsTrial instance.now choice.now goal) }
 {
     let mut agenda = Agenda::of(alloc, instance)?;
-    let mut steps = Vec::new(alloc);
-    match propagate(alloc, &mut agenda, instance, choice, goal, &mut steps)? {
-        Reached::Closed => {
-            let leaf = closed_leaf(alloc, instance, choice, goal, steps)?;
-            Ok(Trial::Closed(leaf))
-        }
-        Reached::At(facts) => Ok(Trial::At(facts)),
-    }
+    let trial = tried_by(alloc, &mut agenda, instance, choice, goal);
+    drop(agenda);
+    trial
 }

@@ -173,7 +173,8 @@ impl Search {
         let mut bench = Workbench::new();
         for _turn in 0..stint.turns {
             if !self.turn_below(site, &mut bench, rising, stint.room, aims) {
-                break;
+                drop(bench);
+                return;
             }
         }
         drop(bench);

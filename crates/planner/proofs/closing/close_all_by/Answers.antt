@@ -2,7 +2,7 @@ use Rattle.std.proofs.Common.{List, ◌++◌, ◌∷◌, [], sym, subst}
 use Rattle.search_workers.specs.piece.Piece.{Piece}
 use Rattle.planner.specs.Closing.{AreClosed}
 use Rattle.planner.proofs.Ending.{closed_lower, closes_more}
-use Rattle.planner.proofs.closing.close_all.Goals as goal
+use Rattle.planner.proofs.closing.close_all_by.Goals as goal
 
 pub loop-task-preserved : goal.loop-task-preserved
 loop-task-preserved c =

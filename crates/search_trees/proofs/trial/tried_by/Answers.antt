@@ -2,7 +2,7 @@ use Rattle.std.proofs.Common.{◌∙◌, ap, Ok, Result}
 use Rattle.ttp_model.specs.declared.error.MemoryFault.{MemoryFault}
 use Rattle.path_bounds.specs.declared.reached.Reached.{Reached}
 use Rattle.search_trees.proofs.Trials.{left_from}
-use Rattle.search_trees.proofs.trial.tried.Goals as goal
+use Rattle.search_trees.proofs.trial.tried_by.Goals as goal
 
 pub returns : goal.returns
 returns c =
