@@ -2,7 +2,8 @@
 
 ghost use Rattle.std.specs.Prelude.{◌≡◌, ◌<◌, ℕ, IfNone, IfOk, IfSome, IsTrue, length};
 ghost use Rattle.tt_choice.specs.Choice.{IsChoice, bare};
-ghost use Rattle.sought_plans.specs.Known.{lo_of, top_of};
+ghost use Rattle.sought_plans.specs.Known.{first_facts, lo_of, top_of};
+ghost use Rattle.tt_infer.specs.Facts.{after};
 ghost use Rattle.tt_infer.specs.Leaves.{ClosesLeaf};
 ghost use Rattle.side_by_side.specs.Standing.{ClosesAround, IsCutShort, IsFirstUnsent, StandsAs};
 ghost use Rattle.side_by_side.specs.Copies.{MayBeCut};
@@ -75,6 +76,29 @@ fn cut_short(alloc: Global, facts: &Facts, leaf: &Leaf, place: usize) -> Result<
     })
 }
 
+/// A leaf as it stands at a choice inside one that it closes, where these are the first facts of that choice.
+fn as_it_stands(alloc: Global, facts: &mut Facts, leaf: &Leaf) -> Result<Leaf, MemoryFault>
+    requires first { facts.old ≡ record {
+      instance = facts.old.instance;
+      choice = facts.old.choice;
+      goal = leaf.now.goal;
+      known = first_facts facts.old.instance facts.old.choice;
+    } }
+    requires around { ClosesAround facts.old.instance facts.old.choice leaf.now }
+    ensures others { facts.new ≡ after facts.old facts.new.known }
+    ensures stands { IfOk result (StandsAs facts.old.instance facts.old.choice leaf.now) }
+{
+    let steps = leaf.steps.as_slice();
+    let _instance = facts.instance();
+    for place in 0..steps.len() {
+        match facts.apply(&steps[place]) {
+            Ok(()) => {}
+            Err(_) => return cut_short(alloc, facts, leaf, place),
+        }
+    }
+    copy_of_leaf(alloc, leaf)
+}
+
 /// A leaf as it stands at a choice inside one that it closes, with the room of these facts.
 fn stand<'a>(
     alloc: Global,
@@ -87,19 +111,8 @@ fn stand<'a>(
     ensures room { IfOk result (λ made. made.room.instance ≡ room.entry.instance) }
     ensures stands { IfOk result (λ made. StandsAs room.entry.instance (bare choice.now) leaf.now made.leaf) }
 {
-    let steps = leaf.steps.as_slice();
     let mut facts = room.turned(choice, leaf.goal)?;
-    let _instance = facts.instance();
-    for place in 0..steps.len() {
-        match facts.apply(&steps[place]) {
-            Ok(()) => {}
-            Err(_) => {
-                let leaf = cut_short(alloc, &facts, leaf, place)?;
-                return Ok(PlacedLeaf { room: facts, leaf });
-            }
-        }
-    }
-    let leaf = copy_of_leaf(alloc, leaf)?;
+    let leaf = as_it_stands(alloc, &mut facts, leaf)?;
     Ok(PlacedLeaf { room: facts, leaf })
 }
 
