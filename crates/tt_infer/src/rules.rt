@@ -1,6 +1,6 @@
 //! Which rule does a step stand for, what does it write and read, which steps does an instance name, and how is each written?
 
-ghost use Rattle.std.specs.Prelude.{◌≡◌, ◌≢◌, ◌∷◌, [], codes};
+ghost use Rattle.std.specs.Prelude.{◌≡◌, ◌≢◌, ◌∷◌, [], bytes_eq, codes};
 ghost use Rattle.sought_plans.specs.Known.{Fits};
 ghost use Rattle.tt_infer.specs.Setting.{TakesOf};
 ghost use Rattle.tt_infer.specs.Lines.{numbers_in, row_of, with_keyword};
@@ -309,40 +309,47 @@ pub fn line_of(step: &Step) -> Line<'_>
     }
 }
 
+/// Whether a keyword is this word.
+fn is_word(keyword: &[u8], word: &[u8]) -> bool
+    ensures { result ≡ bytes_eq keyword.now word.now }
+{
+    keyword == word
+}
+
 fn with_one(keyword: &[u8], a: u32) -> Option<Step>
     ensures { result ≡ with_keyword step_words keyword.now (steps_with (a ∷ [])) }
 {
-    if keyword == b"es-release".as_slice() {
+    if is_word(keyword, b"es-release") {
         return Some(Step::EsRelease(a));
     }
-    if keyword == b"es-link".as_slice() {
+    if is_word(keyword, b"es-link") {
         return Some(Step::EsLink(a));
     }
-    if keyword == b"lo-send".as_slice() {
+    if is_word(keyword, b"lo-send") {
         return Some(Step::LoSend(a));
     }
-    if keyword == b"le-own".as_slice() {
+    if is_word(keyword, b"le-own") {
         return Some(Step::LeOwn(a));
     }
-    if keyword == b"le-link".as_slice() {
+    if is_word(keyword, b"le-link") {
         return Some(Step::LeLink(a));
     }
-    if keyword == b"le-send".as_slice() {
+    if is_word(keyword, b"le-send") {
         return Some(Step::LeSend(a));
     }
-    if keyword == b"us-settled".as_slice() {
+    if is_word(keyword, b"us-settled") {
         return Some(Step::UsSettled(a));
     }
-    if keyword == b"x-window".as_slice() {
+    if is_word(keyword, b"x-window") {
         return Some(Step::XWindow(a));
     }
-    if keyword == b"x-round".as_slice() {
+    if is_word(keyword, b"x-round") {
         return Some(Step::XRound(a));
     }
-    if keyword == b"x-frame".as_slice() {
+    if is_word(keyword, b"x-frame") {
         return Some(Step::XFrame(a));
     }
-    if keyword == b"x-mirror".as_slice() {
+    if is_word(keyword, b"x-mirror") {
         return Some(Step::XMirror(a));
     }
     None
@@ -352,34 +359,34 @@ fn with_two(keyword: &[u8], a: u32, b: u32) -> Option<Step>
     requires { keyword.now ≢ codes "x-cycle" }
     ensures { result ≡ with_keyword step_words keyword.now (steps_with (a ∷ b ∷ [])) }
 {
-    if keyword == b"es-before".as_slice() {
+    if is_word(keyword, b"es-before") {
         return Some(Step::EsBefore(a, b));
     }
-    if keyword == b"es-arrive".as_slice() {
+    if is_word(keyword, b"es-arrive") {
         return Some(Step::EsArrive(a, b));
     }
-    if keyword == b"es-message".as_slice() {
+    if is_word(keyword, b"es-message") {
         return Some(Step::EsMessage(a, b));
     }
-    if keyword == b"le-before".as_slice() {
+    if is_word(keyword, b"le-before") {
         return Some(Step::LeBefore(a, b));
     }
-    if keyword == b"le-message".as_slice() {
+    if is_word(keyword, b"le-message") {
         return Some(Step::LeMessage(a, b));
     }
-    if keyword == b"hi-arrive".as_slice() {
+    if is_word(keyword, b"hi-arrive") {
         return Some(Step::HiArrive(a, b));
     }
-    if keyword == b"ord-window".as_slice() {
+    if is_word(keyword, b"ord-window") {
         return Some(Step::OrdWindow(a, b));
     }
-    if keyword == b"ord-twin".as_slice() {
+    if is_word(keyword, b"ord-twin") {
         return Some(Step::OrdTwin(a, b));
     }
-    if keyword == b"x-late".as_slice() {
+    if is_word(keyword, b"x-late") {
         return Some(Step::XLate(a, b));
     }
-    if keyword == b"x-silent".as_slice() {
+    if is_word(keyword, b"x-silent") {
         return Some(Step::XSilent(a, b));
     }
     None
@@ -389,10 +396,10 @@ fn with_three(keyword: &[u8], a: u32, b: u32, c: u32) -> Option<Step>
     requires { keyword.now ≢ codes "x-cycle" }
     ensures { result ≡ with_keyword step_words keyword.now (steps_with (a ∷ b ∷ c ∷ [])) }
 {
-    if keyword == b"x-load".as_slice() {
+    if is_word(keyword, b"x-load") {
         return Some(Step::XLoad(a, b, c));
     }
-    if keyword == b"x-frames".as_slice() {
+    if is_word(keyword, b"x-frames") {
         return Some(Step::XFrames(a, b, c));
     }
     None
@@ -402,7 +409,7 @@ fn with_four(keyword: &[u8], a: u32, b: u32, c: u32, d: u32) -> Option<Step>
     requires { keyword.now ≢ codes "x-cycle" }
     ensures { result ≡ with_keyword step_words keyword.now (steps_with (a ∷ b ∷ c ∷ d ∷ [])) }
 {
-    if keyword == b"x-channel".as_slice() {
+    if is_word(keyword, b"x-channel") {
         return Some(Step::XChannel(a, b, c, d));
     }
     None
