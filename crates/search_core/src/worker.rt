@@ -3,7 +3,7 @@
 ghost use Rattle.std.specs.Prelude.{◌≡◌, ◌≢◌, [], ◌∷◌, ◌++◌, List, IsTrue, ◌↔◌, MatchResult, IfOk, IfErr, OnErr, OnOk};
 ghost use Rattle.search_core.specs.World.{idle_seat};
 ghost use Rattle.search_core.specs.Turns.{Pops, LosesFirst, TakesName, Looks, Works, Pushes, Offers, Rests, IsUnmet, HasTask, HasChildren, HasValue, HasNames, IsFitting};
-ghost use Rattle.search_core.specs.declared.hand.Hand.TheVariants.{Empty};
+ghost use Rattle.search_core.specs.declared.hand.Hand.TheVariants.{Empty, Task};
 ghost use Rattle.search_trees.specs.Name.{Name};
 
 use crate::event::Worked;
@@ -138,11 +138,12 @@ impl Worker {
         }
     }
 
-    /// Its task becomes a piece.
-    pub(crate) fn work(&mut self, alloc: Global, worked: Worked) -> Result<(), Illegal>
-        ensures done { OnOk result (Works self.old worked self.new) }
-        ensures same { OnErr result (self.new ≡ self.old) }
-        ensures refused { IfErr result (IsUnmet (HasTask self.old.hand) (Unit {0}) (IsFitting self.old.seen worked)) }
+    /// The name of its task, and a copy of it, where this work on it fits.
+    fn names_of_task(&self, alloc: Global, worked: &Worked) -> Result<(Name, Name), Illegal>
+        ensures task { IfOk result (λ names. self.now.hand ≡ Task names.0) }
+        ensures copy { IfOk result (λ names. names.1 ≡ names.0) }
+        ensures fits { OnOk result (IsFitting self.now.seen worked.now) }
+        ensures refused { IfErr result (IsUnmet (HasTask self.now.hand) (Unit {0}) (IsFitting self.now.seen worked.now)) }
     {
         let Hand::Task(name) = &self.hand else {
             return Err(Illegal::WrongHand);
@@ -150,8 +151,16 @@ impl Worker {
         if !worked.is_fitting(self.seen) {
             return Err(Illegal::Misfit);
         }
-        let copy = name.copy(alloc)?;
-        let name = name.copy(alloc)?;
+        Ok((name.copy(alloc)?, name.copy(alloc)?))
+    }
+
+    /// Its task becomes a piece.
+    pub(crate) fn work(&mut self, alloc: Global, worked: Worked) -> Result<(), Illegal>
+        ensures done { OnOk result (Works self.old worked self.new) }
+        ensures same { OnErr result (self.new ≡ self.old) }
+        ensures refused { IfErr result (IsUnmet (HasTask self.old.hand) (Unit {0}) (IsFitting self.old.seen worked)) }
+    {
+        let (name, copy) = self.names_of_task(alloc, &worked)?;
         let (node, hand) = worked.outcome(copy);
         self.pieces.push(Piece { name, node })?;
         self.hand = hand;
