@@ -1,4 +1,4 @@
-use Rattle.std.proofs.Common.{List, Ok, subst}
+use Rattle.std.proofs.Common.{List, Ok, arith, subst}
 use Rattle.std.proofs.lemmas.List.Elements.{All-push}
 use Rattle.cert_check.specs.declared.leaves.HeldLeaf.{HeldLeaf}
 use Rattle.cert_check.specs.Waiting.{Judges, RunCloses, Waits}
@@ -23,3 +23,18 @@ loop-preserved g c =
           rw (c.push_reserved.ensures.items, c.reserve.ensures.items) (All-push (RunCloses i low c.args.leaves.now)
           c.loop.closed.items place c.loop.invariant.closed closes);
     }
+
+pub returns-then-place-leaves : goal.returns-then-place-leaves
+returns-then-place-leaves g c = c.loop.invariant.closed
+
+pub returns-then-is_err : goal.returns-then-is_err
+returns-then-is_err g c = rw c.reserve.ensures.items c.loop.invariant.closed
+
+pub run_at-requires : goal.run_at-requires
+run_at-requires g c = omega arith
+
+pub run-requires-clause-of : goal.run-requires-clause-of
+run-requires-clause-of g c = c.loop.invariant.of
+
+pub returns : goal.returns
+returns g c = c.loop.invariant.closed
