@@ -58,7 +58,10 @@ fn margin_by<R: Threads + Wait + Sync, G: Gate + Sync>(
     let _base = within.nodes();
     let margin = match greatest_margin(rt, asking, &within, processes, terms.scale) {
         Ok(margin) => margin,
-        Err(fault) => return Err(Fault::Search(told_as(fault))),
+        Err(fault) => {
+            drop(within);
+            return Err(Fault::Search(told_as(fault)));
+        }
     };
     let runs = Runs {
         instance: &within,
@@ -66,8 +69,15 @@ fn margin_by<R: Threads + Wait + Sync, G: Gate + Sync>(
         scale: terms.scale,
     };
     match texts_of(asking.alloc, instance, &runs, &margin, terms.beside) {
-        Ok(texts) => Ok(Margined { margin, texts }),
-        Err(_) => Err(Fault::Memory),
+        Ok(texts) => {
+            drop(within);
+            Ok(Margined { margin, texts })
+        }
+        Err(_) => {
+            drop(within);
+            drop(margin);
+            Err(Fault::Memory)
+        }
     }
 }
 

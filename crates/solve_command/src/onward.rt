@@ -154,7 +154,10 @@ fn solved_on<R: Threads + Wait + Sync, G: Follower + Sync>(
     let _nodes = instance.nodes();
     let outcome = match searched_on(rt, alloc, &instance, start, cert, on, follower) {
         Ok(outcome) => outcome,
-        Err(fault) => return Err(fault_of(fault)),
+        Err(fault) => {
+            drop(instance);
+            return Err(fault_of(fault));
+        }
     };
     match answer_text(alloc, on.asked.enough.until, &instance, &outcome) {
         Ok(text) => Ok(Solved {
@@ -162,7 +165,11 @@ fn solved_on<R: Threads + Wait + Sync, G: Follower + Sync>(
             outcome,
             text,
         }),
-        Err(_) => Err(Fault::Memory),
+        Err(_) => {
+            drop(instance);
+            drop(outcome);
+            Err(Fault::Memory)
+        }
     }
 }
 

@@ -233,7 +233,10 @@ fn solved_instance<R: Threads + Wait + Sync, G: Follower + Sync>(
     let _nodes = instance.nodes();
     let outcome = match searched(rt, alloc, &instance, start, asked, follower) {
         Ok(outcome) => outcome,
-        Err(fault) => return Err(Fault::Search(told_as(fault))),
+        Err(fault) => {
+            drop(instance);
+            return Err(Fault::Search(told_as(fault)));
+        }
     };
     match answer_text(alloc, asked.enough.until, &instance, &outcome) {
         Ok(text) => Ok(Solved {
@@ -241,7 +244,11 @@ fn solved_instance<R: Threads + Wait + Sync, G: Follower + Sync>(
             outcome,
             text,
         }),
-        Err(_) => Err(Fault::Memory),
+        Err(_) => {
+            drop(instance);
+            drop(outcome);
+            Err(Fault::Memory)
+        }
     }
 }
 
@@ -337,8 +344,15 @@ pub fn tell_certified<C: Write, W: Write>(
         Err(fault) => return End::Refused(fault),
     };
     match write_certificate(alloc, cert_of(&solved.outcome), certificate) {
-        Ok(()) => write_answer(&solved, out),
-        Err(fault) => End::Refused(fault),
+        Ok(()) => {
+            let end = write_answer(&solved, out);
+            drop(solved);
+            end
+        }
+        Err(fault) => {
+            drop(solved);
+            End::Refused(fault)
+        }
     }
 }
 
