@@ -78,6 +78,27 @@ pub fn log_of_an_order_leads_there(
     Ok(())
 }
 
+/// The leaf that propagation with this agenda makes, where no plan is left.
+fn closed_by(
+    alloc: Global,
+    agenda: &mut Agenda,
+    instance: &Instance,
+    choice: &Choice,
+    goal: u32,
+) -> Result<Option<Leaf>, MemoryFault>
+    requires { IsChoice instance.now choice.now }
+    ensures { IfOk result (λ answer. IfSome answer (ClosesLeaf instance.now choice.now)) }
+{
+    let mut steps = Vec::new(alloc);
+    match propagate(alloc, agenda, instance, choice, goal, &mut steps)? {
+        Reached::Closed => Ok(Some(Leaf {
+            goal,
+            steps: Steps::new(steps),
+        })),
+        Reached::At(_) => Ok(None),
+    }
+}
+
 /// Where it is told that no plan is left, the steps make a leaf that closes.
 pub fn closed_is_told_of_steps_that_close(
     alloc: Global,
@@ -89,14 +110,9 @@ pub fn closed_is_told_of_steps_that_close(
     ensures { IfOk result (λ answer. IfSome answer (ClosesLeaf instance.now choice.now)) }
 {
     let mut agenda = Agenda::of(alloc, instance)?;
-    let mut steps = Vec::new(alloc);
-    match propagate(alloc, &mut agenda, instance, choice, goal, &mut steps)? {
-        Reached::Closed => Ok(Some(Leaf {
-            goal,
-            steps: Steps::new(steps),
-        })),
-        Reached::At(_) => Ok(None),
-    }
+    let closed = closed_by(alloc, &mut agenda, instance, choice, goal);
+    drop(agenda);
+    closed
 }
 
 /// No process ends before a message to it was copied out, sent and copied in: the path bound, in ticks, counts all three.

@@ -57,8 +57,11 @@ pub fn without<R: Threads + Wait + Sync, G: Gate + Sync>(
     ensures { IfOk result (Tells (only instance.now fewer.now) asking.now.options) }
 {
     let looser = with_only(asking.alloc, instance, fewer)?;
-    match carried_over(asking.alloc, &looser, conflict, fewer, asking.options)? {
-        Some(cert) => Ok(Sought::Absent { cert }),
-        None => any_plan(rt, asking, &looser),
-    }
+    let sought = match carried_over(asking.alloc, &looser, conflict, fewer, asking.options) {
+        Ok(Some(cert)) => Ok(Sought::Absent { cert }),
+        Ok(None) => any_plan(rt, asking, &looser),
+        Err(fault) => Err(fault.into()),
+    };
+    drop(looser);
+    sought
 }
