@@ -1,7 +1,7 @@
 //! What is told of an instance's bytes?
 
 ghost use Rattle.std.specs.Prelude.{◌≡◌, ◌≤◌, ◌==◌, IfErr, IfOk, length, string_bytes};
-ghost use Rattle.instance_reasons.specs.Reasons.{IsInstanceReason};
+ghost use Rattle.instance_reasons.specs.Reasons.{IsInstanceReason, IsReadAgain};
 ghost use Rattle.command_streams.specs.Endings.{fault_status};
 ghost use Rattle.command_streams.specs.Instances.{IsInstanceFault};
 ghost use Rattle.command_streams.specs.declared.ending.Fault.TheVariants as fault;
@@ -11,7 +11,7 @@ ghost use Rattle.explain_command.specs.Instances.{IsStatedOf, TellsRefused};
 use crate::mistaken::in_place_of_instance;
 use crate::telling::put_line;
 use command_streams::{Fault, INSTANCE_LIMIT, instance_of_text};
-use instance_reasons::{InstanceReason, reason_of, reread};
+use instance_reasons::{InstanceReason, ReadAgain, reason_of, reread};
 use instance_text::TextError;
 use json_answers::Reasons;
 use sentences::put;
@@ -57,6 +57,24 @@ fn told_behind(
     Ok(text)
 }
 
+/// Why bytes state no instance, as they were read again.
+fn told_of(
+    alloc: Global,
+    bytes: &[u8],
+    wrong: TextError,
+    again: &ReadAgain,
+    reasons: &mut Reasons,
+) -> Result<String, MemoryFault>
+    requires first { IsInstanceFault bytes.now (fault.InstanceText wrong) }
+    requires status { fault_status (fault.InstanceText wrong) ≡ 3 }
+    requires again { IsReadAgain bytes.now wrong again.now }
+    ensures { IfOk result (λ text. TellsRefused bytes.now (string_bytes text)) }
+{
+    let reason = reason_of(alloc, again, &wrong)?;
+    reasons.push(alloc, "reason", &reason)?;
+    told_behind(alloc, bytes, wrong, &reason)
+}
+
 /// Why bytes state no instance.
 fn told_refusal(
     alloc: Global,
@@ -69,9 +87,9 @@ fn told_refusal(
     ensures { IfOk result (λ text. TellsRefused bytes.now (string_bytes text)) }
 {
     let again = reread(alloc, bytes, &wrong)?;
-    let reason = reason_of(alloc, &again, &wrong)?;
-    reasons.push(alloc, "reason", &reason)?;
-    told_behind(alloc, bytes, wrong, &reason)
+    let told = told_of(alloc, bytes, wrong, &again, reasons);
+    drop(again);
+    told
 }
 
 /// What is told of an error of bytes.

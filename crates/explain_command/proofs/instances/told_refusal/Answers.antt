@@ -16,6 +16,3 @@ reread-requires-clause-first c = c.requires.first.1
 
 pub reread-requires-clause-other : goal.reread-requires-clause-other
 reread-requires-clause-other c = says_something c.args.wrong c.requires.status
-
-pub reason_of-requires : goal.reason_of-requires
-reason_of-requires c = c.in_ok-again.ensures.has_fault
