@@ -163,10 +163,12 @@ fn write_near(rt: &HostRuntime, out: &mut impl Write, said: &Said, index: usize)
     let Some(instance) = instance_again(rt, name) else {
         return Ok(());
     };
-    match near_process(rt.alloc(), &instance, *word) {
+    let asked = match near_process(rt.alloc(), &instance, *word) {
         Some(near) => writeln!(out, "did you mean {}?", Word(near)),
         None => Ok(()),
-    }
+    };
+    drop(instance);
+    asked
 }
 
 /// Says which command tells why there is no plan, where standard error is a terminal.

@@ -16,8 +16,9 @@ fn floor(alloc: Global, instance: &Instance) -> Result<u32, MemoryFault>
     let top = instance.past_horizon();
     let root = Task::root(alloc, instance)?;
     let mut agenda = Agenda::of(alloc, instance)?;
-    let piece = close(alloc, &mut agenda, instance, root, top, &[])?;
-    Ok(lowered(&piece, top))
+    let piece = close(alloc, &mut agenda, instance, root, top, &[]);
+    drop(agenda);
+    Ok(lowered(&piece?, top))
 }
 
 /// The aims of a search with this gap. Its floor is what propagation knows of the whole tree; without a gap nothing is asked for it.

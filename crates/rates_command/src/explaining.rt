@@ -8,11 +8,12 @@ ghost use Rattle.endless_schedules.specs.Refusals.{IsUnrollFault};
 ghost use Rattle.rates_command.specs.declared.limits.TheConstants.{RATES_LIMIT};
 ghost use Rattle.rates_command.specs.declared.ending.RatesFault.TheVariants.{Text};
 ghost use Rattle.rates_command.specs.Answers.{IsRatesAnswer};
+ghost use Rattle.rates_command.specs.Reasons.{IsReadAgain};
 ghost use Rattle.rates_command.specs.Telling.{IsUntold, TellsBehind, TellsBytes, TellsRates, TellsText, TellsUnrolled, line_of};
 
 use crate::ending::{RatesEnd, RatesFault};
 use crate::limits::RATES_LIMIT;
-use crate::reason::{RatesReason, rates_reason_of, reread_rates};
+use crate::reason::{RatesAgain, RatesReason, rates_reason_of, reread_rates};
 use crate::refused::put_refused;
 use crate::sizes::sizes_of;
 use command_streams::{Stop, take_input, write_text};
@@ -46,6 +47,21 @@ fn told_behind(
     Ok(text)
 }
 
+/// What is told of bytes that state no cluster, as they were read again.
+fn told_of(
+    alloc: Global,
+    bytes: &[u8],
+    wrong: RatesTextError,
+    again: &RatesAgain,
+) -> Result<String, MemoryFault>
+    requires first { IsFirstRatesFault bytes.now wrong }
+    requires again { IsReadAgain bytes.now wrong again.now }
+    ensures { IfOk result (λ told. TellsText bytes.now (string_bytes told)) }
+{
+    let reason = rates_reason_of(alloc, again, wrong)?;
+    told_behind(alloc, wrong, &reason)
+}
+
 /// What is told of bytes that state no cluster.
 fn told_text(alloc: Global, bytes: &[u8], wrong: RatesTextError) -> Result<String, MemoryFault>
     requires first { IsFirstRatesFault bytes.now wrong }
@@ -53,8 +69,9 @@ fn told_text(alloc: Global, bytes: &[u8], wrong: RatesTextError) -> Result<Strin
     ensures { IfOk result (λ told. TellsText bytes.now (string_bytes told)) }
 {
     let again = reread_rates(alloc, bytes, wrong)?;
-    let reason = rates_reason_of(alloc, &again, wrong)?;
-    told_behind(alloc, wrong, &reason)
+    let told = told_of(alloc, bytes, wrong, &again);
+    drop(again);
+    told
 }
 
 /// What is told of a cluster whose cycle has no instance.
