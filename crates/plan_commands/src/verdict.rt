@@ -2,7 +2,7 @@
 
 ghost use Rattle.std.specs.Prelude.{◌≡◌, ◌≤◌, ◌+◌, length, string_bytes, IfErr, IfOk, IfSome, MatchResult};
 ghost use Rattle.ttp_model.specs.Plans.{IsValid};
-ghost use Rattle.plan_commands.specs.Verdicts.{IsPlanFault, IsRefused, IsVerdict, IsVerified, IsVerifiedPlan, valid_line};
+ghost use Rattle.plan_commands.specs.Verdicts.{HasValidPlan, IsPlanFault, IsRefused, IsVerdict, IsVerified, IsVerifiedPlan, valid_line};
 ghost use Rattle.std.specs.Io.KnownBytes.{Keeps};
 ghost use Rattle.command_streams.specs.declared.limits.TheConstants.{INSTANCE_LIMIT};
 ghost use Rattle.command_streams.specs.Streams.{IsOfReadBytes, TakesAtMost};
@@ -23,6 +23,38 @@ pub struct Verified {
     pub delay: u64,
 }
 
+/// The plan that the bytes spell for the instance, and its delay in ticks, where the plan is valid and states that delay.
+fn valid_of_text(
+    alloc: Global,
+    instance: &Instance,
+    bytes: &[u8],
+) -> Result<(Plan, u64), Fault>
+    requires { length bytes.now ≤ PLAN_LIMIT }
+    ensures judged { MatchResult result
+        (λ valid. HasValidPlan instance.now bytes.now valid.0 valid.1)
+        (IsPlanFault instance.now bytes.now) }
+    ensures valid { IfOk result (λ valid. IsValid instance.now valid.0) }
+    ensures read { IfErr result IsOfReadBytes }
+    ensures later { IfErr result (λ fault. ¬ IsOfInstance fault) }
+{
+    let (plan, stated) = match plan_format::read(alloc, instance, bytes) {
+        Ok(read) => read,
+        Err(error) => return Err(Fault::PlanText(error)),
+    };
+    let delay = match plan_check::check(instance, &plan) {
+        Ok(delay) => delay,
+        Err(fault) => {
+            drop(plan);
+            return Err(Fault::Plan(fault));
+        }
+    };
+    if delay != u64::from(stated) {
+        drop(plan);
+        return Err(Fault::StatedDelay(delay));
+    }
+    Ok((plan, delay))
+}
+
 /// The instance with the plan that the bytes spell for it, where the plan is valid and states its own delay.
 pub fn verified_of_text(alloc: Global, instance: Instance, bytes: &[u8]) -> Result<Verified, Fault>
     requires { length bytes.now ≤ PLAN_LIMIT }
@@ -33,22 +65,17 @@ pub fn verified_of_text(alloc: Global, instance: Instance, bytes: &[u8]) -> Resu
     ensures read { IfErr result IsOfReadBytes }
     ensures later { IfErr result (λ fault. ¬ IsOfInstance fault) }
 {
-    let (plan, stated) = match plan_format::read(alloc, &instance, bytes) {
-        Ok(read) => read,
-        Err(error) => return Err(Fault::PlanText(error)),
-    };
-    let delay = match plan_check::check(&instance, &plan) {
-        Ok(delay) => delay,
-        Err(fault) => return Err(Fault::Plan(fault)),
-    };
-    if delay != u64::from(stated) {
-        return Err(Fault::StatedDelay(delay));
+    match valid_of_text(alloc, &instance, bytes) {
+        Ok((plan, delay)) => Ok(Verified {
+            instance,
+            plan,
+            delay,
+        }),
+        Err(fault) => {
+            drop(instance);
+            Err(fault)
+        }
     }
-    Ok(Verified {
-        instance,
-        plan,
-        delay,
-    })
 }
 
 /// The instance that the first reader's bytes state, with the valid plan of it that the second one's spell. The
