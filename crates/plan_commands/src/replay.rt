@@ -55,7 +55,11 @@ fn text_of_losses(
 {
     let _nodes = instance.nodes();
     match replayed(alloc, instance, medl, losses) {
-        Ok(trace) => Ok(print(alloc, instance, &trace)?),
+        Ok(trace) => {
+            let text = print(alloc, instance, &trace);
+            drop(trace);
+            Ok(text?)
+        }
         Err(ReplayFault::TooFewNodes) => Err(Fault::TooFewNodes),
         Err(ReplayFault::WrongLoss(k)) => Err(Fault::WrongLoss(word_of_loss(medl, words, k))),
         Err(ReplayFault::OutOfMemory) => Err(Fault::Memory),
@@ -110,7 +114,13 @@ pub fn replay_run<I: Read, P: Read, W: Write>(
         Err(fault) => return End::Refused(fault),
     };
     match trace_text(alloc, &verified.instance, &verified.plan, losses.as_slice()) {
-        Ok(text) => end_with(out, text.as_slice()),
-        Err(fault) => End::Refused(fault),
+        Ok(text) => {
+            drop(verified);
+            end_with(out, text.as_slice())
+        }
+        Err(fault) => {
+            drop(verified);
+            End::Refused(fault)
+        }
     }
 }
