@@ -127,10 +127,35 @@ fn retried<'a>(
     ensures { IfOk result (FollowsFrom facts.now.instance (bare facts.now.choice) facts.now.goal) }
 {
     let first = room.anew(facts)?;
-    let (count, closer) = fewest_needed(fewest, &first, facts, steps, written)?;
+    match fewest_needed(fewest, &first, facts, steps, written) {
+        Ok((count, closer)) => retried_from(alloc, first, count, steps, closer.as_ref(), fewest),
+        Err(fault) => {
+            drop(first);
+            Err(fault)
+        }
+    }
+}
+
+/// What is known, beyond what is known at first, by the steps alone that are marked, and by a closer: the last of the steps, where
+/// none is given. There is room for so many.
+fn retried_from<'a>(
+    alloc: Global,
+    first: Facts<'a>,
+    count: usize,
+    steps: &[Step],
+    closer: Option<&Step>,
+    fewest: &Fewest,
+) -> Result<Journal<'a>, MemoryFault>
+    ensures { IfOk result (Advances (record { facts = first.entry; steps = [] })) }
+{
     let mut journal = begun(alloc, first, count)?;
-    try_closing(alloc, &mut journal, steps, closer, fewest)?;
-    Ok(journal)
+    match try_closing(alloc, &mut journal, steps, closer, fewest) {
+        Ok(()) => Ok(journal),
+        Err(fault) => {
+            drop(journal);
+            Err(fault)
+        }
+    }
 }
 
 /// A log without steps of what is known at first, with room for so many.
@@ -177,13 +202,13 @@ fn try_closing(
     alloc: Global,
     journal: &mut Journal,
     steps: &[Step],
-    closer: Option<Step>,
+    closer: Option<&Step>,
     fewest: &Fewest,
 ) -> Result<(), MemoryFault>
     ensures { Advances journal.old journal.new }
 {
     try_marked(alloc, journal, steps, fewest)?;
-    if let Some(step) = closer.as_ref().or(steps.last()) {
+    if let Some(step) = closer.or(steps.last()) {
         journal.append_copy(alloc, step)?;
     }
     Ok(())
