@@ -4,7 +4,7 @@ ghost use Rattle.std.specs.Prelude.{◌≡◌, ◌≢◌, ◌<◌, ◌≤◌, �
 ghost use Rattle.ttp_model.specs.declared.plan.Plan.{Plan};
 ghost use Rattle.ttp_model.specs.declared.step.Step.TheVariants.{UsSettled};
 ghost use Rattle.ttp_model.specs.Chains.{IsPathBound};
-ghost use Rattle.tt_choice.specs.Choice.{IsComplete};
+ghost use Rattle.tt_choice.specs.Choice.{IsChoice, IsComplete};
 ghost use Rattle.tt_choice.specs.Branches.{IsUnorderedPair, root_choice};
 ghost use Rattle.tt_choice.specs.Decisions.{choice_after, IsOpenDecision};
 ghost use Rattle.tt_infer.specs.Leaves.{ClosesSharply};
@@ -203,10 +203,50 @@ fn first_level<'a>(
     ensures { IfOk result (IsLog instance.now (root_choice instance.now) goal) }
 {
     let root = Choice::root(alloc, instance)?;
-    let first = Facts::new(alloc, instance, &root, goal)?;
+    let current = level_of(alloc, agenda, instance, &root, goal);
+    drop(root);
+    current
+}
+
+/// The same of the choice that nothing is decided of.
+fn level_of<'a>(
+    alloc: Global,
+    agenda: &mut Agenda,
+    instance: &'a Instance,
+    root: &Choice,
+    goal: u32,
+) -> Result<Journal<'a>, MemoryFault>
+    requires of { IsChoice instance.now root.now }
+    requires is { root.now ≡ root_choice instance.now }
+    ensures { IfOk result (IsLog instance.now (root_choice instance.now) goal) }
+{
+    let first = Facts::new(alloc, instance, root, goal)?;
     let mut current = Journal::new(first, Vec::new(alloc), Vec::new(alloc));
-    reach(alloc, agenda, instance, &root, &mut current)?;
-    Ok(current)
+    match reach(alloc, agenda, instance, root, &mut current) {
+        Ok(()) => Ok(current),
+        Err(fault) => {
+            drop(current);
+            Err(fault)
+        }
+    }
+}
+
+/// What is known before any decision of the plans below a goal, with the agenda that it took.
+fn begun<'a>(
+    alloc: Global,
+    instance: &'a Instance,
+    goal: u32,
+) -> Result<(Agenda, Journal<'a>), MemoryFault>
+    ensures { IfOk result (λ begun. IsLog instance.now (root_choice instance.now) goal begun.1) }
+{
+    let mut agenda = Agenda::of(alloc, instance)?;
+    match first_level(alloc, &mut agenda, instance, goal) {
+        Ok(current) => Ok((agenda, current)),
+        Err(fault) => {
+            drop(agenda);
+            Err(fault)
+        }
+    }
 }
 
 impl<'a> Propagator<'a> {
@@ -219,19 +259,24 @@ impl<'a> Propagator<'a> {
         ensures { IfOk result (IsStarted instance.now goal) }
     {
         let _nodes = instance.nodes();
-        let fewest = Fewest::none(alloc, instance)?;
-        let mut agenda = Agenda::of(alloc, instance)?;
-        let current = first_level(alloc, &mut agenda, instance, goal)?;
-        Ok(Propagator {
-            instance,
-            goal,
-            decisions: Vec::new(alloc),
-            kept: Vec::new(alloc),
-            current,
-            spare: Vec::new(alloc),
-            agenda,
-            fewest,
-        })
+        let (agenda, current) = begun(alloc, instance, goal)?;
+        match Fewest::none(alloc, instance) {
+            Ok(fewest) => Ok(Propagator {
+                instance,
+                goal,
+                decisions: Vec::new(alloc),
+                kept: Vec::new(alloc),
+                current,
+                spare: Vec::new(alloc),
+                agenda,
+                fewest,
+            }),
+            Err(fault) => {
+                drop(agenda);
+                drop(current);
+                Err(fault)
+            }
+        }
     }
 
     /// Whether no plan is left: always so at a goal of at most the path bound.
@@ -289,8 +334,13 @@ impl<'a> Propagator<'a> {
         self.spare.reserve(2)?;
         let room = room(alloc, &mut self.spare, &self.current)?;
         let mut journal = room.supposing(alloc, &self.current, p, q)?;
-        suppose(alloc, &mut self.agenda, p, q, &mut journal)?;
-        Ok(Supposition { journal })
+        match suppose(alloc, &mut self.agenda, p, q, &mut journal) {
+            Ok(()) => Ok(Supposition { journal }),
+            Err(fault) => {
+                drop(journal);
+                Err(fault)
+            }
+        }
     }
 
     /// Keeps the memory of what was supposed, to be used again.
