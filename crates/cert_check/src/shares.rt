@@ -4,7 +4,7 @@ ghost use Rattle.std.specs.Prelude.{◌≡◌, ◌++◌, ◌*◌, ◌≤◌, ◌
 ghost use Rattle.cert_check.specs.Waiting.{Judges, MarksOnly, RunCloses, Waits, run_at};
 
 use crate::fault::StreamFault;
-use crate::judge::Judge;
+use crate::judge::{Judge, LeafRoom};
 use crate::leaves::HeldLeaf;
 use certificate::CertTextError;
 use std::alloc::Global;
@@ -77,20 +77,36 @@ impl<'a, T> Judge<'a, T> {
         requires { All (Waits self.now.instance.now) leaves.now }
         ensures { All (RunCloses self.now.instance.now self.now.low leaves.now) result.items }
     {
-        let mut closed = Vec::new(self.alloc);
         let Some(first) = leaves.first() else {
-            return closed;
+            return Vec::new(self.alloc);
         };
-        let Ok(room) = self.room(first) else {
-            return closed;
-        };
+        match self.room(first) {
+            Ok(room) => self.closed_runs_in(room, leaves, next),
+            Err(_) => Vec::new(self.alloc),
+        }
+    }
+
+    /// Judges them in this room.
+    fn closed_runs_in(
+        &self,
+        room: LeafRoom<'a>,
+        leaves: &[HeldLeaf],
+        next: &AtomicUsize,
+    ) -> Vec<usize>
+        requires of { room.facts.instance ≡ self.now.instance.now }
+        requires waits { All (Waits self.now.instance.now) leaves.now }
+        ensures { All (RunCloses self.now.instance.now self.now.low leaves.now) result.items }
+    {
         let mut room = room;
+        let mut closed = Vec::new(self.alloc);
         for _ in 0..leaves.len() {
             let place = next.fetch_add(1, Ordering::SeqCst);
             if place > leaves.len() / RUN {
+                drop(room);
                 return closed;
             }
             if closed.reserve(1).is_err() {
+                drop(room);
                 return closed;
             }
             match self.run(room, run_at(leaves, place)) {
@@ -99,6 +115,7 @@ impl<'a, T> Judge<'a, T> {
             }
             closed.push_reserved(place);
         }
+        drop(room);
         closed
     }
 

@@ -1,6 +1,6 @@
 use Rattle.std.proofs.Common.{◌≡◌, All}
 use Rattle.cert_check.specs.Waiting.{RunCloses}
-use Rattle.cert_check.proofs.judge.Judge.closed_runs.Given as goal
+use Rattle.cert_check.proofs.judge.Judge.closed_runs_in.Given as goal
 
 abbrev pub invariant-loop : goal.invariant-loop
 invariant-loop g l = record {

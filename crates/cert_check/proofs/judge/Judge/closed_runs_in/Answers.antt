@@ -3,10 +3,10 @@ use Rattle.std.proofs.lemmas.List.Elements.{All-push}
 use Rattle.cert_check.specs.declared.leaves.HeldLeaf.{HeldLeaf}
 use Rattle.cert_check.specs.Waiting.{Judges, RunCloses, Waits}
 use Rattle.cert_check.proofs.Runs.{run_of}
-use Rattle.cert_check.proofs.judge.Judge.closed_runs.Goals as goal
+use Rattle.cert_check.proofs.judge.Judge.closed_runs_in.Goals as goal
 
 pub run-requires-clause-waits : goal.run-requires-clause-waits
-run-requires-clause-waits g c = rw c.run_at.ensures (run_of (Waits c.args.self.now.instance.now) c.fetch_add-place.result c.args.leaves.now c.requires)
+run-requires-clause-waits g c = rw c.run_at.ensures (run_of (Waits c.args.self.now.instance.now) c.fetch_add-place.result c.args.leaves.now c.requires.waits)
 
 pub returns-in-Err : goal.returns-in-Err
 returns-in-Err g c = rw c.reserve.ensures.items c.loop.invariant.closed
@@ -16,9 +16,9 @@ loop-preserved g c =
     let i = c.args.self.now.instance.now in
     let low = c.args.self.now.low in
     let place = c.fetch_add-place.result in
-    let closes : RunCloses i low c.args.leaves.now place = subst (λ (run : List HeldLeaf). Judges i low run (Ok tt)) c.run_at.ensures c.in-Ok-run.ensures.ok in
+    let closes : RunCloses i low c.args.leaves.now place = subst (λ (run : List HeldLeaf). Judges i low run (Ok tt)) c.run_at.ensures c.in-Ok.ensures.ok in
     record {
-      of = c.in-Ok-run.ensures.of;
+      of = c.in-Ok.ensures.of;
       closed =
           rw (c.push_reserved.ensures.items, c.reserve.ensures.items) (All-push (RunCloses i low c.args.leaves.now)
           c.loop.closed.items place c.loop.invariant.closed closes);
