@@ -1,6 +1,6 @@
 //! What do the decisions of a path say, and which branch said it last?
 
-ghost use Rattle.std.specs.Prelude.{◌≡◌, ◌∷◌, [], ◌++◌, List, None, Some, if◌then◌else◌, length, slice_index_or, slice_set, IfOk, OnErr};
+ghost use Rattle.std.specs.Prelude.{◌≡◌, ◌∷◌, [], ◌++◌, List, replicate, None, Some, if◌then◌else◌, length, slice_index_or, slice_set, IfOk, OnOk, OnErr};
 ghost use Rattle.ttp_model.specs.Instance.{Instance, node_at};
 ghost use Rattle.tt_choice.specs.declared.decision.Decision.TheVariants.{Place, Cap, Before, AtMost, AtLeast, Channel};
 ghost use Rattle.used_decisions.specs.declared.turn.Turn.{Turn};
@@ -44,6 +44,15 @@ pub fn item_at<T: Copy>(items: &[Option<T>], k: usize) -> Option<T>
     ensures { result ≡ slice_index_or items.now k None }
 {
     if k < items.len() { items[k] } else { None }
+}
+
+/// Makes a list of so many places, at which nothing stands.
+fn make_places<T: Copy>(items: &mut Vec<Option<T>>, count: usize) -> Result<(), MemoryFault>
+    ensures { OnOk result (items.new.items ≡ replicate count None) }
+{
+    items.clear();
+    items.resize(count, None)?;
+    Ok(())
 }
 
 /// Puts something at a place that is there.
@@ -140,18 +149,44 @@ impl Tables {
     pub fn new(alloc: Global, instance: &Instance) -> Result<Tables, MemoryFault>
         ensures { IfOk result (AreTables instance.now []) }
     {
+        let mut tables = Tables::empty(alloc);
+        match tables.fill(instance) {
+            Ok(()) => Ok(tables),
+            Err(fault) => {
+                drop(tables);
+                Err(fault)
+            }
+        }
+    }
+
+    /// Without a place for any part of a choice.
+    fn empty(alloc: Global) -> Tables {
+        Tables {
+            order: Vec::new(alloc),
+            above_least: Vec::new(alloc),
+            below_most: Vec::new(alloc),
+            before: Vec::new(alloc),
+            least: Vec::new(alloc),
+            greatest: Vec::new(alloc),
+            channels: Vec::new(alloc),
+        }
+    }
+
+    /// Become tables of no decisions, with a place for each part of a choice.
+    fn fill(&mut self, instance: &Instance) -> Result<(), MemoryFault>
+        ensures { OnOk result (AreTables instance.now [] self.new) }
+    {
         let nodes = instance.nodes().len();
         let messages = instance.messages().len();
         let processes = instance.processes().len();
-        Ok(Tables {
-            order: Vec::new(alloc),
-            above_least: vec![in alloc; None; nodes]?,
-            below_most: vec![in alloc; None; nodes]?,
-            before: vec![in alloc; None; processes * processes]?,
-            least: vec![in alloc; None; messages]?,
-            greatest: vec![in alloc; None; messages]?,
-            channels: vec![in alloc; None; messages]?,
-        })
+        self.order.clear();
+        make_places(&mut self.above_least, nodes)?;
+        make_places(&mut self.below_most, nodes)?;
+        make_places(&mut self.before, processes * processes)?;
+        make_places(&mut self.least, messages)?;
+        make_places(&mut self.greatest, messages)?;
+        make_places(&mut self.channels, messages)?;
+        Ok(())
     }
 
     /// Tells the next decision. What stood in its place.
