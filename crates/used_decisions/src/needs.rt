@@ -12,6 +12,7 @@ ghost use Rattle.used_decisions.specs.Needs.{HoldsAt, HoldUpTo, AreAt};
 
 use crate::way::Way;
 use std::alloc::Global;
+use std::mem;
 use tt_choice::Decision;
 use ttp_model::{Instance, Kind, Leaf};
 
@@ -63,7 +64,9 @@ impl<'a> Needs<'a> {
     {
         if let Some(mut way) = self.taken(alloc, instance) {
             if decisions.len() < u32::MAX as usize && way.begin(decisions).is_ok() {
-                self.way = Some(way);
+                drop(mem::replace(&mut self.way, Some(way)));
+            } else {
+                drop(way);
             }
         }
     }
@@ -75,7 +78,9 @@ impl<'a> Needs<'a> {
     {
         if let Some(mut way) = self.way.take() {
             if way.split(alloc, kind, children).is_ok() {
-                self.way = Some(way);
+                drop(mem::replace(&mut self.way, Some(way)));
+            } else {
+                drop(way);
             }
         }
     }
@@ -88,7 +93,9 @@ impl<'a> Needs<'a> {
     {
         if let Some(mut way) = self.way.take() {
             if way.close(alloc, leaf).is_ok() {
-                self.way = Some(way);
+                drop(mem::replace(&mut self.way, Some(way)));
+            } else {
+                drop(way);
             }
         }
     }

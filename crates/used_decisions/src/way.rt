@@ -83,14 +83,21 @@ impl<'a> Way<'a> {
         ensures { IfOk result (λ way. way ≡ record { instance = instance.now; decisions = []; goal = instance.now.cluster.horizon + 1 }) }
     {
         let _nodes = instance.nodes();
-        Ok(Way {
-            path: Path::new(alloc, instance)?,
-            reader: Reader::new(alloc, instance)?,
-            taken: Vec::new(alloc),
-            ending: None,
-            proved: None,
-            goal: instance.past_horizon(),
-        })
+        let path = Path::new(alloc, instance)?;
+        match Reader::new(alloc, instance) {
+            Ok(reader) => Ok(Way {
+                path,
+                reader,
+                taken: Vec::new(alloc),
+                ending: None,
+                proved: None,
+                goal: instance.past_horizon(),
+            }),
+            Err(fault) => {
+                drop(path);
+                Err(fault)
+            }
+        }
     }
 
     /// What leads to a branch that one of its children proves, where others of them are left.
