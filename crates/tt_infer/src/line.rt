@@ -1,9 +1,7 @@
 //! What stands in a line?
 
-ghost use Rattle.std.specs.Prelude.{◌≡◌, ◌≤◌, length};
+ghost use Rattle.std.specs.Prelude.{◌≡◌};
 ghost use Rattle.tt_infer.specs.Lines.{channel_line, numbers_in, plain_line, row_of};
-
-use ttp_model::Ring;
 
 /// One to four numbers.
 #[derive(Clone, Copy, PartialEq, Eq)]
@@ -49,17 +47,5 @@ pub fn channel_line(keyword: &'static [u8], numbers: FewNumbers) -> Line<'static
         keyword,
         numbers: LineNumbers::Few(numbers),
         speaks_of_channels: true,
-    }
-}
-
-/// The line of a keyword with the processes of a cycle.
-pub fn ring_line<'a>(keyword: &'static [u8], ring: &'a Ring) -> Line<'a>
-    ensures row { row_of result ≡ plain_line keyword.now ring.now }
-    ensures long { 2 ≤ length ring.now }
-{
-    Line {
-        keyword,
-        numbers: LineNumbers::Ring(ring.as_slice()),
-        speaks_of_channels: false,
     }
 }

@@ -3,7 +3,7 @@
 ghost use Rattle.std.specs.Prelude.{◌≡◌, ◌≢◌, ◌∷◌, [], bytes_eq, codes};
 ghost use Rattle.sought_plans.specs.Known.{Fits};
 ghost use Rattle.tt_infer.specs.Setting.{TakesOf};
-ghost use Rattle.tt_infer.specs.Lines.{numbers_in, row_of, with_keyword};
+ghost use Rattle.tt_infer.specs.Lines.{numbers_in, numbers_said, row_of, with_keyword};
 ghost use Rattle.tt_infer.specs.Table.{IsLong, link_steps, message_closers, message_steps, pair_steps, process_closers, process_steps, reads, step_row, step_words, steps_with, target, transfer_steps};
 ghost use Rattle.tt_infer.specs.Sources.{Learnt, Fixed, Waits, Circle, Runs, Frames, Halves, Earlier, Lower, Nothing, One, Two, reads_said};
 
@@ -18,7 +18,7 @@ mod starts;
 use crate::fact::{Fact, link_after, link_before, sender, sending_node};
 use crate::fault::StepFault;
 use crate::limit::Limit;
-use crate::line::{FewNumbers, Line, channel_line, plain_line, ring_line};
+use crate::line::{FewNumbers, Line, LineNumbers};
 use crate::source::{Reads, Source};
 pub use loads::load_of;
 use sought_plans::{Known, Setting};
@@ -275,37 +275,90 @@ pub fn message_closers(m: u32) -> [Step; 2]
     [Step::XRound(m), Step::XFrame(m)]
 }
 
+/// The keyword of a step.
+fn keyword_of(step: &Step) -> &'static [u8]
+    ensures { result.now ≡ (step_words step.now).0 }
+{
+    match step {
+        Step::EsRelease(_) => b"es-release",
+        Step::EsLink(_) => b"es-link",
+        Step::EsBefore(..) => b"es-before",
+        Step::EsArrive(..) => b"es-arrive",
+        Step::EsMessage(..) => b"es-message",
+        Step::LoSend(_) => b"lo-send",
+        Step::LeOwn(_) => b"le-own",
+        Step::LeLink(_) => b"le-link",
+        Step::LeBefore(..) => b"le-before",
+        Step::LeMessage(..) => b"le-message",
+        Step::LeSend(_) => b"le-send",
+        Step::HiArrive(..) => b"hi-arrive",
+        Step::OrdWindow(..) => b"ord-window",
+        Step::OrdTwin(..) => b"ord-twin",
+        Step::UsSettled(_) => b"us-settled",
+        Step::XWindow(_) => b"x-window",
+        Step::XRound(_) => b"x-round",
+        Step::XCycle(_) => b"x-cycle",
+        Step::XLoad(..) => b"x-load",
+        Step::XFrame(_) => b"x-frame",
+        Step::XFrames(..) => b"x-frames",
+        Step::XChannel(..) => b"x-channel",
+        Step::XLate(..) => b"x-late",
+        Step::XSilent(..) => b"x-silent",
+        Step::XMirror(_) => b"x-mirror",
+    }
+}
+
+/// The numbers behind a step's keyword.
+fn numbers_of(step: &Step) -> LineNumbers<'_>
+    ensures said { numbers_said result ≡ (step_words step.now).1 }
+    ensures long { IsLong step.now }
+{
+    match step {
+        Step::EsRelease(a)
+        | Step::EsLink(a)
+        | Step::LoSend(a)
+        | Step::LeOwn(a)
+        | Step::LeLink(a)
+        | Step::LeSend(a)
+        | Step::UsSettled(a)
+        | Step::XWindow(a)
+        | Step::XRound(a)
+        | Step::XFrame(a)
+        | Step::XMirror(a) => LineNumbers::Few(FewNumbers::One(*a)),
+        Step::EsBefore(a, b)
+        | Step::EsArrive(a, b)
+        | Step::EsMessage(a, b)
+        | Step::LeBefore(a, b)
+        | Step::LeMessage(a, b)
+        | Step::HiArrive(a, b)
+        | Step::OrdWindow(a, b)
+        | Step::OrdTwin(a, b)
+        | Step::XLate(a, b)
+        | Step::XSilent(a, b) => LineNumbers::Few(FewNumbers::Two(*a, *b)),
+        Step::XLoad(a, b, c) | Step::XFrames(a, b, c) => {
+            LineNumbers::Few(FewNumbers::Three(*a, *b, *c))
+        }
+        Step::XChannel(a, b, c, d) => LineNumbers::Few(FewNumbers::Four(*a, *b, *c, *d)),
+        Step::XCycle(ring) => LineNumbers::Ring(ring.as_slice()),
+    }
+}
+
+/// Whether a step's line speaks of channels.
+fn speaks_of_channels(step: &Step) -> bool
+    ensures { result ≡ (step_row step.now).speaks_of_channels }
+{
+    matches!(step, Step::XChannel(..) | Step::XMirror(_))
+}
+
 /// The line of a step.
 pub fn line_of(step: &Step) -> Line<'_>
     ensures row { row_of result ≡ step_row step.now }
     ensures long { IsLong step.now }
 {
-    match step {
-        Step::EsRelease(p) => plain_line(b"es-release", FewNumbers::One(*p)),
-        Step::EsLink(l) => plain_line(b"es-link", FewNumbers::One(*l)),
-        Step::EsBefore(p, q) => plain_line(b"es-before", FewNumbers::Two(*p, *q)),
-        Step::EsArrive(m, q) => plain_line(b"es-arrive", FewNumbers::Two(*m, *q)),
-        Step::EsMessage(m, q) => plain_line(b"es-message", FewNumbers::Two(*m, *q)),
-        Step::LoSend(m) => plain_line(b"lo-send", FewNumbers::One(*m)),
-        Step::LeOwn(p) => plain_line(b"le-own", FewNumbers::One(*p)),
-        Step::LeLink(l) => plain_line(b"le-link", FewNumbers::One(*l)),
-        Step::LeBefore(p, q) => plain_line(b"le-before", FewNumbers::Two(*p, *q)),
-        Step::LeMessage(m, q) => plain_line(b"le-message", FewNumbers::Two(*m, *q)),
-        Step::LeSend(m) => plain_line(b"le-send", FewNumbers::One(*m)),
-        Step::HiArrive(m, q) => plain_line(b"hi-arrive", FewNumbers::Two(*m, *q)),
-        Step::OrdWindow(p, q) => plain_line(b"ord-window", FewNumbers::Two(*p, *q)),
-        Step::OrdTwin(p, q) => plain_line(b"ord-twin", FewNumbers::Two(*p, *q)),
-        Step::UsSettled(p) => plain_line(b"us-settled", FewNumbers::One(*p)),
-        Step::XWindow(p) => plain_line(b"x-window", FewNumbers::One(*p)),
-        Step::XRound(m) => plain_line(b"x-round", FewNumbers::One(*m)),
-        Step::XCycle(ring) => ring_line(b"x-cycle", ring),
-        Step::XLoad(n, a, b) => plain_line(b"x-load", FewNumbers::Three(*n, *a, *b)),
-        Step::XFrame(m) => plain_line(b"x-frame", FewNumbers::One(*m)),
-        Step::XFrames(n, a, b) => plain_line(b"x-frames", FewNumbers::Three(*n, *a, *b)),
-        Step::XChannel(k, n, a, b) => channel_line(b"x-channel", FewNumbers::Four(*k, *n, *a, *b)),
-        Step::XLate(m, r) => plain_line(b"x-late", FewNumbers::Two(*m, *r)),
-        Step::XSilent(u, v) => plain_line(b"x-silent", FewNumbers::Two(*u, *v)),
-        Step::XMirror(m) => channel_line(b"x-mirror", FewNumbers::One(*m)),
+    Line {
+        keyword: keyword_of(step),
+        numbers: numbers_of(step),
+        speaks_of_channels: speaks_of_channels(step),
     }
 }
 
