@@ -1,12 +1,12 @@
 //! What is known of the plans that are sought, and how is it sharpened?
 
-ghost use Rattle.std.specs.Prelude.{◌≡◌, ℕ, ◌+◌, ◌<◌, ◌≤◌, length, min, max, map, replicate, IfOk};
+ghost use Rattle.std.specs.Prelude.{◌≡◌, ℕ, ◌+◌, ◌<◌, ◌≤◌, length, min, max, map, replicate, IfOk, OnOk};
 ghost use Rattle.ttp_model.specs.declared.limits.TheConstants.{MOST_TICKS};
 ghost use Rattle.tt_choice.specs.Choice.{IsChoice, greatest_round};
 ghost use Rattle.sought_plans.specs.Known.{Known, Fits, es_of, le_of, lo_of, top_of, bef_of, first_facts};
 ghost use Rattle.sought_plans.specs.Conclusions.{StartsFrom, EndsUntil, SentFrom, SentBefore, GoesFirst, NothingLeft, sharpened};
 
-use crate::rooms::refilled;
+use crate::rooms::refill;
 use std::alloc::Global;
 use std::marker::Model;
 use tt_choice::{Choice, Precedence};
@@ -42,43 +42,40 @@ fn lesser(a: u32, b: u64) -> u32
     if u64::from(a) <= b { a } else { b as u32 }
 }
 
-/// So many times the same number, in this room.
-fn all_alike(room: Vec<u32>, number: u32, count: usize) -> Result<Vec<u32>, MemoryFault>
-    ensures { IfOk result (λ numbers. numbers.items ≡ replicate count number) }
+/// Puts so many times the same number in place of those that are there.
+fn fill_alike(numbers: &mut Vec<u32>, number: u32, count: usize) -> Result<(), MemoryFault>
+    ensures { OnOk result (numbers.new.items ≡ replicate count number) }
 {
-    let mut numbers = room;
     numbers.clear();
     numbers.resize(count, number)?;
-    Ok(numbers)
+    Ok(())
 }
 
-/// The least round of each message, in this room.
-fn least_rounds(room: Vec<u32>, choice: &Choice, messages: u32) -> Result<Vec<u32>, MemoryFault>
+/// Puts the least round of each message in place of those that are there.
+fn fill_least(rounds: &mut Vec<u32>, choice: &Choice, messages: u32) -> Result<(), MemoryFault>
     requires { length choice.now.lo ≡ messages }
-    ensures { IfOk result (λ rounds. rounds.items ≡ choice.now.lo) }
+    ensures { OnOk result (rounds.new.items ≡ choice.now.lo) }
 {
-    let mut rounds = room;
     rounds.clear();
     rounds.reserve(messages as usize)?;
     for m in 0..messages {
         rounds.push(choice.lo(m))?;
     }
-    Ok(rounds)
+    Ok(())
 }
 
-/// The first round of each message that is too late, in this room.
-fn late_rounds(room: Vec<u32>, choice: &Choice, messages: u32) -> Result<Vec<u32>, MemoryFault>
+/// Puts the first round of each message that is too late in place of those that are there.
+fn fill_late(rounds: &mut Vec<u32>, choice: &Choice, messages: u32) -> Result<(), MemoryFault>
     requires all { length choice.now.hi ≡ messages }
     requires early { (m : ℕ) → m < messages → greatest_round choice.now m < MOST_TICKS }
-    ensures { IfOk result (λ rounds. rounds.items ≡ map (λ r. r + 1) choice.now.hi) }
+    ensures { OnOk result (rounds.new.items ≡ map (λ r. r + 1) choice.now.hi) }
 {
-    let mut rounds = room;
     rounds.clear();
     rounds.reserve(messages as usize)?;
     for m in 0..messages {
         rounds.push(choice.hi(m) + 1)?;
     }
-    Ok(rounds)
+    Ok(())
 }
 
 impl Known {
@@ -103,34 +100,58 @@ impl Known {
         requires { IsChoice instance.now choice.now }
         ensures { IfOk result (λ f. f ≡ first_facts instance.now choice.now) }
     {
+        let mut known = self;
+        match known.restart(instance, choice) {
+            Ok(()) => Ok(known),
+            Err(fault) => {
+                drop(known);
+                Err(fault)
+            }
+        }
+    }
+
+    /// Becomes what is known at first, in the memory that it has where that suffices. After a refusal it is of use no more.
+    fn restart(&mut self, instance: &Instance, choice: &Choice) -> Result<(), MemoryFault>
+        requires { IsChoice instance.now choice.now }
+        ensures { OnOk result (self.new ≡ first_facts instance.now choice.now) }
+    {
         let processes = instance.processes().len();
         let messages = instance.messages().len() as u32;
-        let mut bef = self.bef;
-        bef.set_to(choice.precedence())?;
-        Ok(Known {
-            es: all_alike(self.es, 0, processes)?,
-            le: all_alike(self.le, instance.cluster().horizon, processes)?,
-            lo: least_rounds(self.lo, choice, messages)?,
-            top: late_rounds(self.top, choice, messages)?,
-            bef,
-            closed: false,
-        })
+        self.bef.set_to(choice.precedence())?;
+        fill_alike(&mut self.es, 0, processes)?;
+        fill_alike(&mut self.le, instance.cluster().horizon, processes)?;
+        fill_least(&mut self.lo, choice, messages)?;
+        fill_late(&mut self.top, choice, messages)?;
+        self.closed = false;
+        Ok(())
     }
 
     /// The same as is known elsewhere, in the room of what was known.
     pub fn set_to(self, other: &Known) -> Result<Self, MemoryFault>
         ensures { IfOk result (λ f. f ≡ other.now) }
     {
-        let mut bef = self.bef;
-        bef.set_to(&other.bef)?;
-        Ok(Known {
-            es: refilled(self.es, other.es.as_slice())?,
-            le: refilled(self.le, other.le.as_slice())?,
-            lo: refilled(self.lo, other.lo.as_slice())?,
-            top: refilled(self.top, other.top.as_slice())?,
-            bef,
-            closed: other.closed,
-        })
+        let mut known = self;
+        match known.become_same(other) {
+            Ok(()) => Ok(known),
+            Err(fault) => {
+                drop(known);
+                Err(fault)
+            }
+        }
+    }
+
+    /// Becomes the same as is known elsewhere, in the memory that it has where that suffices. After a refusal it is of use no
+    /// more.
+    fn become_same(&mut self, other: &Known) -> Result<(), MemoryFault>
+        ensures { OnOk result (self.new ≡ other.now) }
+    {
+        self.bef.set_to(&other.bef)?;
+        refill(&mut self.es, other.es.as_slice())?;
+        refill(&mut self.le, other.le.as_slice())?;
+        refill(&mut self.lo, other.lo.as_slice())?;
+        refill(&mut self.top, other.top.as_slice())?;
+        self.closed = other.closed;
+        Ok(())
     }
 
     /// Process `p` starts at this time or later.

@@ -1,5 +1,5 @@
 use Rattle.sought_plans.proofs.CopiedLists.{copied_more, copied}
-use Rattle.sought_plans.proofs.known.least_rounds.Goals as goal
+use Rattle.sought_plans.proofs.known.fill_least.Goals as goal
 
 pub loop-m-preserved : goal.loop-m-preserved
 loop-m-preserved c =

@@ -1,6 +1,6 @@
 use Rattle.std.proofs.Common.{◌+◌}
 use Rattle.sought_plans.proofs.CopiedLists.{mapped_more, mapped}
-use Rattle.sought_plans.proofs.known.late_rounds.Goals as goal
+use Rattle.sought_plans.proofs.known.fill_late.Goals as goal
 
 pub loop-m-preserved : goal.loop-m-preserved
 loop-m-preserved c =
