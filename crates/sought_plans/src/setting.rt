@@ -1,6 +1,6 @@
 //! Which plans are sought, and when can messages be sent in them?
 
-ghost use Rattle.std.specs.Prelude.{◌≡◌, ℕ, ◌+◌, ◌^◌, ◌<◌, ◌≤◌, ◌↔◌, IfOk, length};
+ghost use Rattle.std.specs.Prelude.{◌≡◌, ℕ, ◌+◌, ◌^◌, ◌<◌, ◌≤◌, ◌↔◌, [], IfOk, OnOk, length};
 ghost use Rattle.ttp_model.specs.declared.limits.TheConstants.{MOST_BYTES, MOST_DURATION};
 ghost use Rattle.tt_choice.specs.Choice.{IsChoice, bare};
 ghost use Rattle.tt_choice.specs.Decisions.{choice_after, IsOpenDecision};
@@ -60,6 +60,27 @@ fn slots_after(
     }
 }
 
+/// The choice becomes that of a setting after a decision: the slots of all nodes there, in this room. After a refusal it is of use no
+/// more.
+fn become_after(
+    alloc: Global,
+    choice: &mut Choice,
+    room: Vec<SlotTimes>,
+    before: &Setting,
+    decision: Decision,
+) -> Result<Vec<SlotTimes>, MemoryFault>
+    requires bare { choice.old.kept ≡ [] }
+    requires open { IsOpenDecision before.now.instance before.now.choice decision }
+    ensures of { OnOk result (IsChoice before.now.instance choice.new) }
+    ensures after { OnOk result (choice.new ≡ choice_after before.now.instance before.now.choice decision) }
+    ensures slots { IfOk result (λ slots. AreSlots before.now.instance choice.new slots.items) }
+{
+    let instance = before.instance();
+    choice.set_to(before.choice())?;
+    choice.change(alloc, instance, decision)?;
+    slots_after(room, before, choice, decision)
+}
+
 impl<'a> Setting<'a> {
     /// Keeps a copy of the choice.
     pub fn new(
@@ -100,16 +121,20 @@ impl<'a> Setting<'a> {
         }) }
     {
         let instance = before.instance();
-        let mut choice = self.choice.bare();
-        choice.set_to(before.choice())?;
-        choice.change(alloc, instance, decision)?;
-        let slots = slots_after(self.slots, before, &choice, decision)?;
-        Ok(Setting {
-            instance,
-            choice,
-            goal: before.goal,
-            slots,
-        })
+        let Setting { choice, slots, .. } = self;
+        let mut choice = choice.bare();
+        match become_after(alloc, &mut choice, slots, before, decision) {
+            Ok(slots) => Ok(Setting {
+                instance,
+                choice,
+                goal: before.goal,
+                slots,
+            }),
+            Err(fault) => {
+                drop(choice);
+                Err(fault)
+            }
+        }
     }
 
     /// The same plans as of another one, in the room of this one. No decision is kept.

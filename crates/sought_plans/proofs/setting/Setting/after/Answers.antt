@@ -1,19 +1,8 @@
-use Rattle.std.proofs.Common.{[], refl, ◌∙◌}
-use Rattle.tt_choice.proofs.Trail.{IsChoice-keeping}
 use Rattle.sought_plans.proofs.setting.Setting.after.Goals as goal
-
-pub change-requires-clause-of : goal.change-requires-clause-of
-change-requires-clause-of c = rw (c.in_ok-set_to.ensures, c.choice.ensures.value, c.instance-instance.ensures) (IsChoice-keeping _ _ [] c.choice.ensures.of)
 
 pub invariant_of-result : goal.invariant_of-result
 invariant_of-result c = record {
   instance = rw (c.instance-instance.ensures, ← c.before-2.view_is) c.before-2.invariant.instance;
-  choice = c.in_ok-change.ensures.choice;
-  slots = rw c.instance-instance.ensures c.in_ok-slots.ensures;
+  choice = rw c.instance-instance.ensures c.in-Ok.ensures.of;
+  slots = rw c.instance-instance.ensures c.in-Ok.ensures.slots;
 }
-
-pub slots_after-requires-clause-of : goal.slots_after-requires-clause-of
-slots_after-requires-clause-of c = rw c.instance-instance.ensures at c.in_ok-change.ensures.choice
-
-pub slots_after-requires-clause-after : goal.slots_after-requires-clause-after
-slots_after-requires-clause-after c = c.in_ok-change.ensures.ok ∙ rw (c.instance-instance.ensures, c.in_ok-set_to.ensures, c.choice.ensures.value) refl
