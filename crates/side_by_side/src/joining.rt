@@ -10,8 +10,9 @@ ghost use Rattle.tree_check.specs.Proofs.{Proves};
 ghost use Rattle.side_by_side.specs.declared.fault.JoinFault.TheVariants.{OutOfMemory};
 ghost use Rattle.side_by_side.specs.Bounds.{IsGreatestBound, IsRight};
 ghost use Rattle.side_by_side.specs.Faults.{IsJoinFault, IsNodeAt};
-ghost use Rattle.side_by_side.specs.Joined.{IsJoinedTree, certificate_at, own_trees};
+ghost use Rattle.side_by_side.specs.Joined.{IsBest, IsJoinedTree, certificate_at, own_trees};
 ghost use Rattle.side_by_side.specs.Found.{side_at};
+ghost use Rattle.side_by_side.specs.Standing.{StandsAs};
 ghost use Rattle.side_by_side.specs.Steps.{FindsBest, FindsLeader, IsAtPlaceOf, IsFewer, IsHereOf, IsJoiningOf, IsJoiningWith, IsStep, KnowsBest, KnowsLeader, work_of};
 
 use crate::fault::JoinFault;
@@ -25,7 +26,7 @@ use certificate::{Cert, Node, Version};
 use std::alloc::Global;
 use tree_check::{Walk, judge_leaf};
 use tt_infer::Facts;
-use ttp_model::{Instance, MemoryFault};
+use ttp_model::{Instance, Leaf, MemoryFault};
 
 /// Where the join of certificates stands: the choice of the next place, how far each certificate is passed, which places are still to
 /// come, and the nodes that were made.
@@ -126,6 +127,27 @@ impl<'a> Joining<'a> {
         Ok(())
     }
 
+    /// Goes on behind the place, where no branch leads and the best leaf stands as this one.
+    fn stand_as(&mut self, alloc: Global, frame: Frame, leaf: Leaf) -> Result<(), MemoryFault>
+        requires { (at : IsHereOf self.old frame) × (best : Leaf) × IsBest (length self.old.certs.now) at.group.above at.group.at (Some best)
+            × FindsLeader self.old frame at None × StandsAs self.old.instance.now (bare self.old.walk.choice) best leaf }
+        ensures step { IsStep self.old self.new }
+        ensures joining { OnOk result (IsJoiningOf self.new) }
+        ensures fewer { OnOk result (IsFewer self.old self.new) }
+    {
+        let depth = self.frames.as_slice().len();
+        let flags = followers(alloc, self.certs, self.sides.as_slice(), depth, None)?;
+        pass_all(
+            self.certs,
+            self.sides.as_mut_slice(),
+            depth,
+            flags.as_slice(),
+        );
+        self.frames.push(frame.less())?;
+        self.nodes.push(Node::Leaf(leaf))?;
+        Ok(())
+    }
+
     /// Lets the best leaf stand, where no branch leads.
     fn stand_alone(
         &mut self,
@@ -146,17 +168,13 @@ impl<'a> Joining<'a> {
         let leaf = leaf_at(self.certs, spot);
         let standing = leaf_here(alloc, room, self.walk.choice(), leaf, judged)?;
         let PlacedLeaf { room, leaf } = standing;
-        let depth = self.frames.as_slice().len();
-        let flags = followers(alloc, self.certs, self.sides.as_slice(), depth, None)?;
-        pass_all(
-            self.certs,
-            self.sides.as_mut_slice(),
-            depth,
-            flags.as_slice(),
-        );
-        self.frames.push(frame.less())?;
-        self.nodes.push(Node::Leaf(leaf))?;
-        Ok(room)
+        match self.stand_as(alloc, frame, leaf) {
+            Ok(()) => Ok(room),
+            Err(_) => {
+                drop(room);
+                Err(JoinFault::OutOfMemory)
+            }
+        }
     }
 
     /// Goes on from a place, where this leaf is the best one, or none is, and this certificate's branch leads, or none does.
@@ -177,10 +195,13 @@ impl<'a> Joining<'a> {
         ensures fault { IfErr result (IsJoinFault self.old.instance.now self.old.certs.now) }
     {
         match leads {
-            Some(k) => {
-                self.lead(alloc, frame, k, best.0)?;
-                Ok(room)
-            }
+            Some(k) => match self.lead(alloc, frame, k, best.0) {
+                Ok(()) => Ok(room),
+                Err(fault) => {
+                    drop(room);
+                    Err(fault)
+                }
+            },
             None => match best.0 {
                 Some(spot) => self.stand_alone(alloc, room, frame, spot, best.1),
                 None => unreachable!(),
@@ -227,7 +248,13 @@ impl<'a> Joining<'a> {
         ensures fewer { OnOk result (IsFewer self.old self.new) }
         ensures fault { IfErr result (IsJoinFault self.old.instance.now self.old.certs.now) }
     {
-        self.walk.go_on(alloc, self.instance)?;
+        match self.walk.go_on(alloc, self.instance) {
+            Ok(()) => {}
+            Err(_) => {
+                drop(room);
+                return Err(JoinFault::OutOfMemory);
+            }
+        }
         let depth = self.frames.as_slice().len();
         let above = goal_of(self.certs, frame.above);
         let sides = self.sides.as_slice();
@@ -280,6 +307,7 @@ impl<'a> Joining<'a> {
         'places: while let Some(frame) = self.frames.pop() {
             room = self.go_over(alloc, room, frame)?;
         }
+        drop(room);
         Ok(())
     }
 }

@@ -15,7 +15,7 @@ judge-requires-clause-at c =
     let old = c.args.self.now in
     let j : Joining = record old { walk = c.go_on.new.self } in
     let here = here_of old.instance.now old.certs.now old.walk c.go_on.new.self old.sides.items old.frames.items c.args.frame old.nodes.items c.requires.at
-    c.in_ok-go_on.ensures in
+    c.in-Ok.ensures in
     let above = c.goal_of-above.ensures here.group.above here.frame_is.above in
     let found = rw (c.in-Some.is, c.as_slice-sides.ensures.value, c.as_slice-depth.ensures.value, above) at c.first_greatest-own.ensures in
     let own = own_leaf j c.args.frame here c.in-Some.k found in
@@ -26,7 +26,7 @@ pub judge-requires-clause-choice : goal.judge-requires-clause-choice
 judge-requires-clause-choice c =
     let old = c.args.self.now in
     let here = here_of old.instance.now old.certs.now old.walk c.go_on.new.self old.sides.items old.frames.items c.args.frame old.nodes.items c.requires.at
-    c.in_ok-go_on.ensures in
+    c.in-Ok.ensures in
     here.choice
 
 pub go_on-requires-in-Some-clause-at : goal.go_on-requires-in-Some-clause-at
@@ -34,7 +34,7 @@ go_on-requires-in-Some-clause-at c =
     let old = c.args.self.now in
     let j : Joining = record old { walk = c.go_on.new.self } in
     let here = here_of old.instance.now old.certs.now old.walk c.go_on.new.self old.sides.items old.frames.items c.args.frame old.nodes.items c.requires.at
-    c.in_ok-go_on.ensures in
+    c.in-Ok.ensures in
     let above = c.goal_of-above.ensures here.group.above here.frame_is.above in
     let found = rw (c.in-Some.is, c.as_slice-sides.ensures.value, c.as_slice-depth.ensures.value, above) at c.first_greatest-own.ensures in
     let leads = rw (c.as_slice-sides.ensures.value, c.as_slice-depth.ensures.value) at c.first_greatest-leads.ensures in
@@ -53,7 +53,7 @@ go_on-requires-in-None-clause-at c =
     let old = c.args.self.now in
     let j : Joining = record old { walk = c.go_on.new.self } in
     let here = here_of old.instance.now old.certs.now old.walk c.go_on.new.self old.sides.items old.frames.items c.args.frame old.nodes.items c.requires.at
-    c.in_ok-go_on.ensures in
+    c.in-Ok.ensures in
     let above = c.goal_of-above.ensures here.group.above here.frame_is.above in
     let found = rw (c.in-None.is, c.as_slice-sides.ensures.value, c.as_slice-depth.ensures.value, above) at c.first_greatest-own.ensures in
     let leads = rw (c.as_slice-sides.ensures.value, c.as_slice-depth.ensures.value) at c.first_greatest-leads.ensures in
