@@ -24,11 +24,7 @@ pub struct Verified {
 }
 
 /// The plan that the bytes spell for the instance, and its delay in ticks, where the plan is valid and states that delay.
-fn valid_of_text(
-    alloc: Global,
-    instance: &Instance,
-    bytes: &[u8],
-) -> Result<(Plan, u64), Fault>
+fn valid_of_text(alloc: Global, instance: &Instance, bytes: &[u8]) -> Result<(Plan, u64), Fault>
     requires { length bytes.now ≤ PLAN_LIMIT }
     ensures judged { MatchResult result
         (λ valid. HasValidPlan instance.now bytes.now valid.0 valid.1)

@@ -347,6 +347,7 @@ fn numbers_of(step: &Step) -> LineNumbers<'_>
 fn speaks_of_channels(step: &Step) -> bool
     ensures { result ≡ (step_row step.now).speaks_of_channels }
 {
+    // No other step is about one channel.
     matches!(step, Step::XChannel(..) | Step::XMirror(_))
 }
 
