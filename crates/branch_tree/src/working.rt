@@ -252,9 +252,10 @@ pub fn root_bound(alloc: Global, instance: &Instance, top: u32) -> Result<u32, M
     let _nodes = instance.nodes();
     let root = Task::root(alloc, instance)?;
     let mut agenda = Agenda::of(alloc, instance)?;
-    let leaf = left_leaf(alloc, &mut agenda, instance, &root, top, &[]);
+    let closed = left_leaf(alloc, &mut agenda, instance, &root, top, &[]);
     drop(agenda);
-    Ok(leaf?.goal)
+    let leaf = closed?;
+    Ok(leaf.goal)
 }
 
 /// Whether propagation closes a task at a goal in ticks. It goes on from what is kept of the task before. For the choice of a task alone:
